@@ -1,5 +1,5 @@
 -- Serving that begins after events that a journal kept.
-use Rattle.std.proofs.Common.{◌≡◌, ℕ, ◌≤◌, Bool, true, List, [], ◌∷◌, ◌++◌, refl, sym, ap, ◌∙◌, subst, append_assoc, arith, inl, inr}
+use Rattle.std.proofs.Common.{◌≡◌, ℕ, ◌≤◌, Bool, true, List, [], ◌∷◌, ◌++◌, refl, sym, ap, ◌∙◌, subst, append_assoc, arith, inl, inr, ◌⊎◌}
 use Rattle.std.specs.List.{AllByRecursion}
 use Rattle.std.proofs.lemmas.List.{append-nil}
 use Rattle.ritas_base.specs.declared.event.Event.{Event}
@@ -24,15 +24,17 @@ use Rattle.node_loop.specs.declared.end.ServeEnd.{ServeEnd}
 use Rattle.node_loop.specs.declared.end.ServeEnd.TheVariants as ends
 use Rattle.node_loop.specs.declared.house.House.{House}
 use Rattle.node_loop.specs.Again.{ServesAgain}
-use Rattle.node_loop.specs.Archives.{Moment}
+use Rattle.node_loop.specs.Archives.{Moment, KeptAt, reach}
 use Rattle.node_loop.specs.Journals.{OpensSome, JournalStands}
+use Rattle.node_loop.specs.Keeping.{kept_of}
 use Rattle.node_loop.specs.Laws.{IsServed}
-use Rattle.node_loop.specs.Outs.{events_text, Outs, Tells, Agrees, HasCauses, AllWritten, InOrder, StopsPartway}
-use Rattle.node_loop.specs.Recovering.{recalled_waiting, recalled_peers, recovered, with_past}
+use Rattle.node_loop.specs.Outs.{events_text, Outs, Tells, Agrees, HasCauses, AllWritten, InOrder, NoneSent, StopsPartway}
+use Rattle.node_loop.specs.Recovering.{earlier_with, recalled_waiting, recalled_peers, recovered, with_past}
 use Rattle.node_loop.specs.Running.{Running}
 use Rattle.node_loop.specs.Served.{AreHere, Whole}
-use Rattle.node_loop.specs.ServedKept.{EndsKept, ServesKept}
-use Rattle.node_loop.specs.Serving.{Serving, so_far, Want}
+use Rattle.node_loop.specs.ServedKept.{EndsKept, ServesKept, earlier_kept, newest_kept}
+use Rattle.node_loop.specs.Serving.{Serving, so_far, Want, Round}
+use Rattle.node_loop.specs.Told.{after_groups, before_newest, sooner}
 use Rattle.node_loop.specs.Standing.{HouseStands}
 use Rattle.node_loop.proofs.Grouping.{text_parts}
 use Rattle.node_loop.proofs.Gathering.{runs_first}
@@ -83,14 +85,26 @@ module _ (tells : Tells) (base : Outs) (taken : List ℕ) (count : ℕ) (past : 
     link_stands = agrees.link_stands;
   }
 
-  order_with : (now : Outs) (fault : Fault) (es : List Event) (sooner : List LinkAct) → InOrder tells mid now fault es sooner → InOrder tells base now fault (es ++ past) sooner
-  order_with now faults.Tape es sooner order = order
-  order_with now faults.Link es sooner (inl written) = inl (all_with now es written)
-  order_with now faults.Link es sooner (inr none) = inr none
-  order_with now faults.Mem es sooner (inl written) = inl (all_with now es written)
-  order_with now faults.Mem es sooner (inr none) = inr none
-  order_with now faults.Disk es sooner order = (all_with now es order.0, order.1)
-  order_with now (faults.Full x) es sooner order = (all_with now es order.0, order.1)
+  -- where the tape took these, it took the earlier ones or all of them
+  abbrev Earlier : Outs → List Event → List Event → List Event → Type 0
+  Earlier now before earlier es = AllWritten tells mid now before → AllWritten tells base now (es ++ past) ⊎ AllWritten tells base now earlier
+
+  either_with : (now : Outs) (before earlier es : List Event) (sooner : List LinkAct) → Earlier now before earlier es
+      → AllWritten tells mid now es ⊎ (AllWritten tells mid now before × NoneSent tells mid now sooner)
+      → AllWritten tells base now (es ++ past) ⊎ (AllWritten tells base now earlier × NoneSent tells base now sooner)
+  either_with now before earlier es sooner with_it (inl written) = inl (all_with now es written)
+  either_with now before earlier es sooner with_it (inr none) = elim (with_it none.0) [
+    | inl all ↦ inl all
+    | inr some ↦ inr (some, none.1)
+  ]
+
+  order_with : (now : Outs) (fault : Fault) (before earlier es : List Event) (sooner : List LinkAct) → Earlier now before earlier es → InOrder tells mid now fault before es sooner
+      → InOrder tells base now fault earlier (es ++ past) sooner
+  order_with now faults.Tape before earlier es sooner with_it order = order
+  order_with now faults.Link before earlier es sooner with_it order = either_with now before earlier es sooner with_it order
+  order_with now faults.Mem before earlier es sooner with_it order = either_with now before earlier es sooner with_it order
+  order_with now faults.Disk before earlier es sooner with_it order = (all_with now es order.0, order.1)
+  order_with now (faults.Full x) before earlier es sooner with_it order = (all_with now es order.0, order.1)
 
   cause_with : (now : Outs) (fault : Fault) → HasCauses mid now fault → HasCauses base now fault
   cause_with now faults.Tape cause = (cause.0 ∙ ap count_after still, cause.1)
@@ -99,12 +113,13 @@ module _ (tells : Tells) (base : Outs) (taken : List ℕ) (count : ℕ) (past : 
   cause_with now faults.Disk cause = (cause.0 ∙ still, cause.1)
   cause_with now (faults.Full x) cause = (cause.0 ∙ still, cause.1)
 
-  stops_with : (now : Outs) (fault : Fault) (es : List Event) (sooner news : List LinkAct) → StopsPartway tells mid now fault es sooner news → StopsPartway tells base now fault (es ++ past) sooner news
-  stops_with now fault es sooner news stops = record {
+  stops_with : (now : Outs) (fault : Fault) (before earlier es : List Event) (sooner news : List LinkAct) → Earlier now before earlier es
+      → StopsPartway tells mid now fault before es sooner news → StopsPartway tells base now fault earlier (es ++ past) sooner news
+  stops_with now fault before earlier es sooner news with_it stops = record {
     taken = λ t. front_then base.taken taken now.taken (events_text past) (events_text es) [] (events_text (es ++ past))
         (text_parts es past ∙ ap (λ (l : List ℕ). events_text past ++ l) (sym (append-nil (events_text es)))) (wrote t) (stops.taken t);
     told = stops.told;
-    order = order_with now fault es sooner stops.order;
+    order = order_with now fault before earlier es sooner with_it stops.order;
     tape_later = let later = stops.tape_later in omega (arith, still, later);
     link_later = stops.link_later;
     cause = cause_with now fault stops.cause;
@@ -118,16 +133,41 @@ module _ (tells : Tells) (base : Outs) (taken : List ℕ) (count : ℕ) (past : 
         → Whole m w [] numbers here tells base now (with_past past s) acts rule reason
     whole_with now s acts rule reason whole = record { why = whole.why; agrees = agrees_with now s.events acts whole.agrees; stand = stand_with s whole.stand }
 
-    ends_with : (now : Outs) (end : ServeEnd) (s : Serving) (sooner news : List LinkAct) (rule : Want) → EndsKept m w past numbers here tells mid now end s sooner news rule
-        → EndsKept m w [] numbers here tells base now end (with_past past s) sooner news rule
-    ends_with now ends.Done s sooner news rule so = whole_with now s _ rule _ so
-    ends_with now ends.Limit s sooner news rule so = whole_with now s _ rule _ so
-    ends_with now ends.End s sooner news rule so = whole_with now s _ rule _ so
-    ends_with now ends.LinkFault s sooner news rule so = (stops_with now faults.Link s.events sooner news so.0, stand_with s so.1)
-    ends_with now ends.TapeFault s sooner news rule so = (stops_with now faults.Tape s.events sooner news so.0, stand_with s so.1)
-    ends_with now ends.Mem s sooner news rule so = stops_with now faults.Mem s.events sooner news so
-    ends_with now ends.DiskFault s sooner news rule so = (stops_with now faults.Disk s.events sooner news so.0, stand_with s so.1)
-    ends_with now (ends.JournalFull x) s sooner news rule so = (stops_with now (faults.Full x) s.events sooner news so.0, stand_with s so.1)
+    ends_with : (now : Outs) (end : ServeEnd) (before earlier : List Event) (s : Serving) (sooner news : List LinkAct) (rule : Want) → Earlier now before earlier s.events
+        → EndsKept m w past numbers here tells mid now end before s sooner news rule → EndsKept m w [] numbers here tells base now end earlier (with_past past s) sooner news rule
+    ends_with now ends.Done before earlier s sooner news rule with_it so = whole_with now s _ rule _ so
+    ends_with now ends.Limit before earlier s sooner news rule with_it so = whole_with now s _ rule _ so
+    ends_with now ends.End before earlier s sooner news rule with_it so = whole_with now s _ rule _ so
+    ends_with now ends.LinkFault before earlier s sooner news rule with_it so = (stops_with now faults.Link before earlier s.events sooner news with_it so.0, stand_with s so.1)
+    ends_with now ends.TapeFault before earlier s sooner news rule with_it so = (stops_with now faults.Tape before earlier s.events sooner news with_it so.0, stand_with s so.1)
+    ends_with now ends.Mem before earlier s sooner news rule with_it so = stops_with now faults.Mem before earlier s.events sooner news with_it so
+    ends_with now ends.DiskFault before earlier s sooner news rule with_it so = (stops_with now faults.Disk before earlier s.events sooner news with_it so.0, stand_with s so.1)
+    ends_with now (ends.JournalFull x) before earlier s sooner news rule with_it so =
+        (stops_with now (faults.Full x) before earlier s.events sooner news with_it so.0, stand_with s so.1)
+
+    -- before the first group the tape took the past ones alone
+    earlier_then : (now : Outs) (groups : List (List Round))
+        → Earlier now (before_newest w past (recovered w past) groups).events (earlier_with w past groups) (after_groups w past (recovered w past) groups).events
+    earlier_then now [] written = inl (all_with now [] written)
+    earlier_then now (group ∷ older) written = inr (all_with now (after_groups w past (recovered w past) older).events written)
+
+    kept_with : (now : Moment) (groups : List (List Round)) (end : ServeEnd)
+        → KeptAt now (reach tells mid now.outs (before_newest w past (recovered w past) groups).events (after_groups w past (recovered w past) groups).events (sooner w past (recovered w past) groups))
+        (kept_of w past (after_groups w past (recovered w past) groups).events) (newest_kept w past (recovered w past) groups) (earlier_kept w past (recovered w past) groups) end
+        → KeptAt now (reach tells base now.outs (earlier_with w past groups) (so_far past (after_groups w past (recovered w past) groups)) (sooner w past (recovered w past) groups))
+        (kept_of w past (after_groups w past (recovered w past) groups).events) (newest_kept w past (recovered w past) groups) (earlier_kept w past (recovered w past) groups) end
+    kept_with now groups ends.Done held = held
+    kept_with now groups ends.Limit held = held
+    kept_with now groups ends.End held = held
+    kept_with now groups ends.TapeFault held = held
+    kept_with now groups ends.DiskFault held = held
+    kept_with now groups (ends.JournalFull x) held = held
+    kept_with now groups ends.LinkFault (inl all) = inl (all_with now.outs (after_groups w past (recovered w past) groups).events all.0, all.1)
+    kept_with now [] ends.LinkFault (inr none) = inl (all_with now.outs [] none.0.0, none.1)
+    kept_with now (group ∷ older) ends.LinkFault (inr none) = inr ((all_with now.outs (after_groups w past (recovered w past) older).events none.0.0, none.0.1), none.1)
+    kept_with now groups ends.Mem (inl all) = inl (all_with now.outs (after_groups w past (recovered w past) groups).events all.0, all.1)
+    kept_with now [] ends.Mem (inr none) = inl (all_with now.outs [] none.0.0, inl none.1)
+    kept_with now (group ∷ older) ends.Mem (inr none) = inr ((all_with now.outs (after_groups w past (recovered w past) older).events none.0.0, none.0.1), none.1)
 
     -- and then it was served
     pub serves_with : (now : Moment) (end : ServeEnd) (until limit : ℕ) → ServesKept m w past numbers here tells mid now end until limit (recovered w past)
@@ -135,8 +175,8 @@ module _ (tells : Tells) (base : Outs) (taken : List ℕ) (count : ℕ) (past : 
     serves_with now end until limit served = record {
       groups = served.groups;
       are = served.are;
-      so = ends_with now.outs end _ _ _ _ served.so;
-      kept = served.kept;
+      so = ends_with now.outs end _ _ _ _ _ _ (earlier_then now.outs served.groups) served.so;
+      kept = kept_with now served.groups end served.kept;
     }
 
 -- ---- it begins
@@ -156,13 +196,16 @@ module _ {S E C : Type 0} (m : Meaning S E C KeyRow) (w : Setting) (past : List 
     so = record {
       taken = λ t. none_written now.outs.taken (events_text past);
       told = λ t. back_none now.outs.told [];
-      order = inr (λ t. refl);
+      order = inr (nothing now, λ t. refl);
       tape_later = omega arith;
       link_later = omega arith;
       cause = (refl, inl refl);
     };
-    kept = inl stood;
+    kept = inr ((nothing now, λ t. refl), stood);
   }
+    where
+      nothing : (now : Moment) → AllWritten tells now.outs now.outs []
+      nothing now t = sym (append-nil now.outs.taken)
 
   -- the tape failed over the past events
   pub again_unwritten : (here : List (Replica S E C)) (base : Outs) (now : Moment) (until limit : ℕ) → AreHere m w past numbers here → now.stands []

@@ -23,10 +23,10 @@ use Rattle.node_loop.specs.declared.end.ServeEnd.{ServeEnd}
 use Rattle.node_loop.specs.declared.group.Group.{Group}
 use Rattle.node_loop.specs.declared.house.House.{House}
 use Rattle.node_loop.specs.declared.output.Output.{Output}
-use Rattle.node_loop.specs.Archives.{Moment, ArchiveLeftAt}
+use Rattle.node_loop.specs.Archives.{Moment, Reach, ArchiveLeftAt, reach}
 use Rattle.node_loop.specs.Groups.{FitsPeers, acts_by, acts_each}
 use Rattle.node_loop.specs.Keeping.{kept_of}
-use Rattle.node_loop.specs.Outs.{events_text, Outs, Tells, Agrees, StopsPartway, HasCauses, InOrder, NoneSent}
+use Rattle.node_loop.specs.Outs.{events_text, Outs, Tells, Agrees, StopsPartway, HasCauses, InOrder}
 use Rattle.node_loop.specs.Ends.{IsFaultOfLink, fault_in, IsEndOf}
 use Rattle.node_loop.specs.Running.{Running, Gathered, IsOfTape}
 use Rattle.node_loop.specs.ServedKept.{ServesKept, newest_kept}
@@ -55,7 +55,7 @@ wrote_all tells base old new x y told link_faults es older acts agrees whole sta
 pub wrote_front : (tells : Tells) (base : Outs) (old new : List ℕ) (x y : ℕ) (told : List LinkAct) (link_faults : FaultCounts) (es older : List Event) (acts news : List LinkAct)
     → Agrees tells base (record { taken = old; tape_faults = x; told = told; link_faults = link_faults }) older acts
     → (tells.tape ≡ true → TookFront old new (events_text es)) → x ≤ y → y ≡ count_after x
-    → StopsPartway tells base (record { taken = new; tape_faults = y; told = told; link_faults = link_faults }) faults.Tape (es ++ older) acts news
+    → StopsPartway tells base (record { taken = new; tape_faults = y; told = told; link_faults = link_faults }) faults.Tape older (es ++ older) acts news
 wrote_front tells base old new x y told link_faults es older acts news agrees front le rises = record {
   taken = λ t. front_then base.taken old new (events_text older) (events_text es) [] (events_text (es ++ older))
       (text_parts es older ∙ ap (λ (l : List ℕ). events_text older ++ l) (sym (append-nil (events_text es)))) (agrees.taken t) (front t);
@@ -69,24 +69,26 @@ wrote_front tells base old new x y told link_faults es older acts news agrees fr
 -- ---- the archive
 
 -- where the tape failed, only the older ones were kept
-left_tape : (now : Moment) (none : Type 0) (kept group older : List Event) (fault : Fault) → IsOfTape fault → none → now.stands older → ArchiveLeftAt now none kept group older fault
-left_tape now none kept group older fault own sent stands = of_tape (λ x. ArchiveLeftAt now none kept group older x) stands (inr (sent, inl stands)) fault own
+left_tape : (now : Moment) (far : Reach) (kept group older : List Event) (fault : Fault) → IsOfTape fault → now.stands older → ArchiveLeftAt now far kept group older fault
+left_tape now far kept group older fault own stands = of_tape (λ x. ArchiveLeftAt now far kept group older x) stands fault own
 
 -- the archive failed over the newest group
-left_archive : (now : Moment) (none : Type 0) (kept group older : List Event) (x : ArchiveFault) → none → now.fails x group older → ArchiveLeftAt now none kept group older (fault_in x)
-left_archive now none kept group older archive.Disk sent fails = fails
-left_archive now none kept group older (archive.Full x) sent fails = fails
-left_archive now none kept group older archive.Mem sent fails = inr (sent, inr fails)
+left_archive : (now : Moment) (far : Reach) (kept group older : List Event) (x : ArchiveFault) → far.whole → far.none → now.fails x group older
+    → ArchiveLeftAt now far kept group older (fault_in x)
+left_archive now far kept group older archive.Disk written sent fails = fails
+left_archive now far kept group older (archive.Full x) written sent fails = fails
+left_archive now far kept group older archive.Mem written sent fails = inl (written, inr (sent, fails))
 
 archive_causes : (tells : Tells) (base now : Outs) (events : List Event) (acts : List LinkAct) (x : ArchiveFault) → Agrees tells base now events acts → HasCauses base now (fault_in x)
 archive_causes tells base now events acts archive.Disk agrees = (agrees.tape_stands, agrees.link_stands)
 archive_causes tells base now events acts (archive.Full x) agrees = (agrees.tape_stands, agrees.link_stands)
 archive_causes tells base now events acts archive.Mem agrees = (agrees.tape_stands, inl agrees.link_stands)
 
-archive_order : (tells : Tells) (base now : Outs) (events : List Event) (acts : List LinkAct) (x : ArchiveFault) → Agrees tells base now events acts → InOrder tells base now (fault_in x) events acts
-archive_order tells base now events acts archive.Disk agrees = (agrees.taken, agrees.told)
-archive_order tells base now events acts (archive.Full x) agrees = (agrees.taken, agrees.told)
-archive_order tells base now events acts archive.Mem agrees = inl agrees.taken
+archive_order : (tells : Tells) (base now : Outs) (earlier events : List Event) (acts : List LinkAct) (x : ArchiveFault) → Agrees tells base now events acts
+    → InOrder tells base now (fault_in x) earlier events acts
+archive_order tells base now earlier events acts archive.Disk agrees = (agrees.taken, agrees.told)
+archive_order tells base now earlier events acts (archive.Full x) agrees = (agrees.taken, agrees.told)
+archive_order tells base now earlier events acts archive.Mem agrees = inl agrees.taken
 
 -- ---- a group
 
@@ -112,6 +114,9 @@ module _ {S E C : Type 0} (m : Meaning S E C KeyRow) (w : Setting) (past : List 
   abbrev new : List LinkAct
   new = newest_calls w past start groups
 
+  abbrev far_at : Outs → Reach
+  far_at now = reach tells base now s₀.events s₁.events old
+
   abbrev EndedAt : Moment → ServeEnd → Type 0
   EndedAt now end = ServesKept m w past numbers house.replicas.items tells base now end until limit start
 
@@ -122,12 +127,12 @@ module _ {S E C : Type 0} (m : Meaning S E C KeyRow) (w : Setting) (past : List 
   all_events = sym (events_parts w past s₀ run.newest)
 
   -- the tape failed
-  pub tape_fails : (now : Moment) (fault : Fault) (end : ServeEnd) → IsOfTape fault → NoneSent tells base now.outs old
-      → StopsPartway tells base now.outs fault (es ++ s₀.events) old new → now.stands (kept_of w past s₀.events) → IsEndOf fault end → EndedAt now end
-  tape_fails now fault end own sent stops stands is =
+  pub tape_fails : (now : Moment) (fault : Fault) (end : ServeEnd) → IsOfTape fault → StopsPartway tells base now.outs fault s₀.events (es ++ s₀.events) old new
+      → now.stands (kept_of w past s₀.events) → IsEndOf fault end → EndedAt now end
+  tape_fails now fault end own stops stands is =
       at_fault m w past numbers tells base until limit start groups now house.replicas.items fault end are is
-      (subst (λ (es : List Event). StopsPartway tells base now.outs fault es old new) all_events stops) (if_failed fault _ run.under.stands.here)
-      (left_tape now (NoneSent tells base now.outs old) (kept_of w past s₁.events) (newest_kept w past start groups) (kept_of w past s₀.events) fault own sent stands)
+      (subst (λ (es : List Event). StopsPartway tells base now.outs fault s₀.events es old new) all_events stops) (if_failed fault _ run.under.stands.here)
+      (left_tape now (far_at now.outs) (kept_of w past s₁.events) (newest_kept w past start groups) (kept_of w past s₀.events) fault own stands)
 
   -- all events were written
   pub all_wrote : (outs : Outs) → Agrees tells base outs (es ++ s₀.events) old → Agrees tells base outs s₁.events old
@@ -145,13 +150,13 @@ module _ {S E C : Type 0} (m : Meaning S E C KeyRow) (w : Setting) (past : List 
       (record {
         taken = λ t. all_written base.taken now.outs.taken (events_text s₁.events) (agrees.taken t);
         told = λ t. rw (agrees.told t) (back_none (old ++ base.told) new);
-        order = archive_order tells base now.outs s₁.events old x agrees;
+        order = archive_order tells base now.outs s₀.events s₁.events old x agrees;
         tape_later = omega (arith, agrees.tape_stands);
         link_later = omega (arith, same_failed agrees.link_stands);
         cause = archive_causes tells base now.outs s₁.events old x agrees;
       })
       (if_failed (fault_in x) _ run.under.stands.here)
-      (left_archive now (NoneSent tells base now.outs old) (kept_of w past s₁.events) (newest_kept w past start groups) (kept_of w past s₀.events) x agrees.told
+      (left_archive now (far_at now.outs) (kept_of w past s₁.events) (newest_kept w past start groups) (kept_of w past s₀.events) x agrees.taken agrees.told
       (subst (λ (l : List Event). now.fails x l (kept_of w past s₀.events)) (kept_as events listed) fails))
 
   -- what goes out goes to peers, or is for none
@@ -188,7 +193,8 @@ module _ {S E C : Type 0} (m : Meaning S E C KeyRow) (w : Setting) (past : List 
         → LinkDid tells.link (acts_each (acts_by s₁.peers.keeping) outputs) outs.told told outs.link_faults count (Err x) → IsEndOf fault end → EndedAt then end
     group_stops outputs x fault end same why did is =
         at_fault m w past numbers tells base until limit start groups then house.replicas.items fault end are is
-        (link_stops tells base outs s₁.events old [] new new told count x fault why (sym (append-nil new)) agrees
+        (link_stops tells base outs s₀.events s₁.events old [] new new told count x fault why (sym (append-nil new)) agrees
         (subst (λ (acts : List LinkAct). LinkDid tells.link acts outs.told told outs.link_faults count (Err x)) (ap (acts_each (acts_by s₁.peers.keeping)) same ∙ run.under.holds.acts) did))
         (if_failed fault _ run.under.stands.here)
-        (left_none then (NoneSent tells base (with_link outs told count) old) (kept_of w past s₁.events) (newest_kept w past start groups) (kept_of w past s₀.events) fault (link_alone x fault why) kept)
+        (left_none then (far_at (with_link outs told count)) (kept_of w past s₁.events) (newest_kept w past start groups) (kept_of w past s₀.events) fault (link_alone x fault why)
+        agrees.taken kept)

@@ -21,17 +21,17 @@ use Rattle.node_loop.specs.declared.end.ServeEnd.TheVariants as ends
 use Rattle.node_loop.specs.declared.group.Group.{Group}
 use Rattle.node_loop.specs.declared.house.House.{House}
 use Rattle.node_loop.specs.declared.rounds.Next.TheVariants as next
-use Rattle.node_loop.specs.Archives.{Moment, ArchiveLeftAt, KeptAt}
+use Rattle.node_loop.specs.Archives.{Moment, Reach, ArchiveLeftAt, KeptAt, reach}
 use Rattle.node_loop.specs.Ends.{IsEndOf}
 use Rattle.node_loop.specs.Groups.{IsEmpty, MayGrow, IsGroupEnough, GroupHolds, JoinsGroup, Under}
 use Rattle.node_loop.specs.Keeping.{kept_of}
-use Rattle.node_loop.specs.Outs.{events_text, Outs, Tells, Agrees, InOrder, NoneSent, StopsPartway, IfFailed}
+use Rattle.node_loop.specs.Outs.{events_text, Outs, Tells, Agrees, InOrder, StopsPartway, IfFailed}
 use Rattle.node_loop.specs.Running.{Running, Gathered, IsNext}
 use Rattle.node_loop.specs.Served.{AreHere, EndsSo, Serves}
 use Rattle.node_loop.specs.ServedKept.{EndsKept, ServesKept, earlier_kept, newest_kept}
 use Rattle.node_loop.specs.Serving.{Serving, begin, so_far, Want, first_or, wants, wants_of, Turns, Round, Began, Turned, Took, behind_first, round_does, after_from, IsWanted}
 use Rattle.node_loop.specs.Standing.{HouseStands}
-use Rattle.node_loop.specs.Told.{given_in, events_from, most_rounds, enough_bytes, MayJoin, IsGroup, IsFull, IsGroupOver, after_groups, AreGroups, told_from, newest_calls, sooner}
+use Rattle.node_loop.specs.Told.{given_in, events_from, most_rounds, enough_bytes, MayJoin, IsGroup, IsFull, IsGroupOver, after_groups, AreGroups, before_newest, told_from, newest_calls, sooner}
 use Rattle.node_loop.proofs.Grouping.{events_parts, text_parts, holds_none, joins_on}
 use Rattle.node_loop.proofs.Rounding.{next_told, GaveNone, memory_short, tape_on, told_parts, next_finish, next_halt, next_ask, if_failed, ends_so, left_end, left_none, wants_now}
 use Rattle.node_loop.proofs.Stepping.{with_link, of_link, whole_order}
@@ -63,6 +63,14 @@ module _ {S E C : Type 0} (m : Meaning S E C KeyRow) (w : Setting) (past : List 
   abbrev after : List (List Round) → Serving
   after groups = after_groups w past start groups
 
+  -- the events before the newest group's
+  abbrev before : List (List Round) → List Event
+  before groups = (before_newest w past start groups).events
+
+  -- how far it came with these
+  abbrev far_at : Outs → List (List Round) → Reach
+  far_at now groups = reach tells base now (before groups) (after groups).events (sooner w past start groups)
+
   abbrev EndedAt : List (Replica S E C) → Moment → ServeEnd → Type 0
   EndedAt here now end = ServesKept m w past numbers here tells base now end until limit start
 
@@ -70,15 +78,15 @@ module _ {S E C : Type 0} (m : Meaning S E C KeyRow) (w : Setting) (past : List 
 
   -- it broke in the newest group
   pub at_fault : (groups : List (List Round)) (now : Moment) (here : List (Replica S E C)) (fault : Fault) (end : ServeEnd) → AreGroups w past until limit start groups → IsEndOf fault end
-      → StopsPartway tells base now.outs fault (after groups).events (sooner w past start groups) (newest_calls w past start groups)
+      → StopsPartway tells base now.outs fault (before groups) (after groups).events (sooner w past start groups) (newest_calls w past start groups)
       → IfFailed fault (AreHere m w (so_far past (after groups)) numbers here)
-      → ArchiveLeftAt now (NoneSent tells base now.outs (sooner w past start groups)) (kept_of w past (after groups).events) (newest_kept w past start groups) (earlier_kept w past start groups) fault
-      → EndedAt here now end
+      → ArchiveLeftAt now (far_at now.outs groups) (kept_of w past (after groups).events) (newest_kept w past start groups) (earlier_kept w past start groups) fault → EndedAt here now end
   at_fault groups now here fault end are is stops stand left = record {
     groups = groups;
     are = are;
-    so = ends_so m w past numbers here tells base now.outs fault end (after groups) (sooner w past start groups) (newest_calls w past start groups) (wants w past until limit (after groups)) is stops stand;
-    kept = left_end now (NoneSent tells base now.outs (sooner w past start groups)) (kept_of w past (after groups).events) (newest_kept w past start groups) (earlier_kept w past start groups) fault end is left;
+    so = ends_so m w past numbers here tells base now.outs fault end (before groups) (after groups) (sooner w past start groups) (newest_calls w past start groups)
+        (wants w past until limit (after groups)) is stops stand;
+    kept = left_end now (far_at now.outs groups) (kept_of w past (after groups).events) (newest_kept w past start groups) (earlier_kept w past start groups) fault end is left;
   }
 
   -- between two groups
@@ -94,12 +102,13 @@ module _ {S E C : Type 0} (m : Meaning S E C KeyRow) (w : Setting) (past : List 
         taken = λ t. all_written base.taken now.outs.taken (events_text s.events) (gave.written t);
         told = λ t. back_all (old ++ base.told) now.outs.told new
             (gave.told t ∙ ap (λ (l : List LinkAct). l ++ base.told) (told_parts w past start groups) ∙ append_assoc new old base.told);
-        order = whole_order tells base now.outs s.events old fault gave.own gave.written;
+        order = whole_order tells base now.outs (before groups) s.events old fault gave.own gave.written;
         tape_later = tape_on base now.outs fault gave.own gave.cause;
         link_later = gave.link_later;
         cause = gave.cause;
       })
-      stand (left_none now (NoneSent tells base now.outs old) (kept_of w past s.events) (newest_kept w past start groups) (earlier_kept w past start groups) fault gave.own stood)
+      stand
+      (left_none now (far_at now.outs groups) (kept_of w past s.events) (newest_kept w past start groups) (earlier_kept w past start groups) fault gave.own gave.written stood)
 
   -- in a group of which nothing was delivered
   pub breaks_within : (newest : List Round) (older : List (List Round)) (now : Moment) (here : List (Replica S E C)) (fault : Fault) (end : ServeEnd)
@@ -116,14 +125,14 @@ module _ {S E C : Type 0} (m : Meaning S E C KeyRow) (w : Setting) (past : List 
         taken = λ t. subst (λ (l : List ℕ). TookFront base.taken now.outs.taken l) (sym (ap events_text (events_parts w past s₀ newest) ∙ text_parts es s₀.events))
             (front_more base.taken now.outs.taken (events_text s₀.events) (events_text es) (all_written base.taken now.outs.taken (events_text s₀.events) (gave.written t)));
         told = λ t. rw (gave.told t) (back_none (old ++ base.told) (newest_calls w past start groups));
-        order = of_link (λ x. InOrder tells base now.outs x (after groups).events old) (inr gave.told) (inr gave.told) fault gave.own;
+        order = let none = (gave.written, gave.told) in of_link (λ x. InOrder tells base now.outs x s₀.events (after groups).events old) (inr none) (inr none) fault gave.own;
         tape_later = tape_on base now.outs fault gave.own gave.cause;
         link_later = gave.link_later;
         cause = gave.cause;
       })
       stand
-      (of_link (λ x. ArchiveLeftAt now (NoneSent tells base now.outs old) (kept_of w past (after groups).events) (newest_kept w past start groups) (earlier_kept w past start groups) x)
-      (inr (gave.told, stood)) (inr (gave.told, inl stood)) fault gave.own)
+      (of_link (λ x. ArchiveLeftAt now (far_at now.outs groups) (kept_of w past (after groups).events) (newest_kept w past start groups) (earlier_kept w past start groups) x)
+      (inr ((gave.written, gave.told), stood)) (inr ((gave.written, gave.told), stood)) fault gave.own)
 
   -- ---- the first round of a group
 
@@ -310,8 +319,9 @@ module _ {S E C : Type 0} (m : Meaning S E C KeyRow) (w : Setting) (past : List 
 
   -- all of the groups was delivered
   serves_whole : (groups : List (List Round)) (here : List (Replica S E C)) (now : Moment) (end : ServeEnd) → AreGroups w past until limit start groups
-      → EndsKept m w past numbers here tells base now.outs end (after groups) (sooner w past start groups) (newest_calls w past start groups) (wants w past until limit (after groups))
-      → ((none : Type 0) (group older : List Event) → KeptAt now none (kept_of w past (after groups).events) group older end) → EndedAt here now end
+      → EndsKept m w past numbers here tells base now.outs end (before groups) (after groups) (sooner w past start groups) (newest_calls w past start groups)
+      (wants w past until limit (after groups))
+      → ((far : Reach) (group older : List Event) → KeptAt now far (kept_of w past (after groups).events) group older end) → EndedAt here now end
   serves_whole groups here now end are so kept = record { groups = groups; are = are; so = so; kept = kept _ _ _ }
 
   module _ (house : House S E C) (o : Moment) (taken : ℕ) (run : Running m w past numbers house tells base o taken until limit start []) where
@@ -332,12 +342,12 @@ module _ {S E C : Type 0} (m : Meaning S E C KeyRow) (w : Setting) (past : List 
     pub finishes : IsNext last_want next.Finish → EndedAt house.replicas.items o ends.Done
     finishes is =
         serves_whole run.groups house.replicas.items o ends.Done run.are
-        (record { why = last_now ∙ next_finish last_want is; agrees = in_parts o.outs [] run.agrees; stand = run.stands.here }) (λ none group older. run.kept)
+        (record { why = last_now ∙ next_finish last_want is; agrees = in_parts o.outs [] run.agrees; stand = run.stands.here }) (λ far group older. run.kept)
 
     pub halts : IsNext last_want next.Halt → EndedAt house.replicas.items o ends.Limit
     halts is =
         serves_whole run.groups house.replicas.items o ends.Limit run.are
-        (record { why = last_now ∙ next_halt last_want is; agrees = in_parts o.outs [] run.agrees; stand = run.stands.here }) (λ none group older. run.kept)
+        (record { why = last_now ∙ next_halt last_want is; agrees = in_parts o.outs [] run.agrees; stand = run.stands.here }) (λ far group older. run.kept)
 
     pub link_ends : (now : Moment) (item : LinkItem) → IsNext last_want next.Ask → item ≡ items.End → Agrees tells base now.outs last_at.events (Gives item ∷ told_from w past start run.groups)
         → now.stands (kept_of w past last_at.events) → EndedAt house.replicas.items now ends.End
@@ -348,7 +358,7 @@ module _ {S E C : Type 0} (m : Meaning S E C KeyRow) (w : Setting) (past : List 
           agrees = in_parts now.outs (Gives items.End ∷ []) (subst (λ (x : LinkItem). Agrees tells base now.outs last_at.events (Gives x ∷ told_from w past start run.groups)) is_end agrees);
           stand = run.stands.here;
         })
-        (λ none group older. stood)
+        (λ far group older. stood)
 
     pub link_fails : (now : Moment) (fault : Fault) (end : ServeEnd) → GaveNone tells base now.outs fault last_at.events (told_from w past start run.groups)
         → now.stands (kept_of w past last_at.events) → IsEndOf fault end → EndedAt house.replicas.items now end
@@ -389,10 +399,13 @@ serves_plain m w past numbers here tells base now end until limit first never se
     rule : Want
     rule = wants w past until limit s
 
-    by_end : (end : ServeEnd) → EndsKept m w past numbers here tells base now.outs end s older new rule
-        → KeptAt now (NoneSent tells base now.outs older) (kept_of w past s.events) (newest_kept w past (begin first) served.groups)
+    before : List Event
+    before = (before_newest w past (begin first) served.groups).events
+
+    by_end : (end : ServeEnd) → EndsKept m w past numbers here tells base now.outs end before s older new rule
+        → KeptAt now (reach tells base now.outs before s.events older) (kept_of w past s.events) (newest_kept w past (begin first) served.groups)
         (earlier_kept w past (begin first) served.groups) end
-        → EndsSo m w past numbers here tells base now.outs end s older new rule
+        → EndsSo m w past numbers here tells base now.outs end before s older new rule
     by_end ends.Done so kept = so
     by_end ends.Limit so kept = so
     by_end ends.End so kept = so

@@ -22,7 +22,7 @@ use Rattle.node_loop.specs.Outs.{Outs, Tells, Agrees, HasCauses, AllWritten, Non
 use Rattle.node_loop.specs.Ends.{IsEndOfLink, IsFaultOfLink, IsEndOf}
 use Rattle.node_loop.specs.Served.{AreHere}
 use Rattle.node_loop.specs.ServedKept.{EndsKept}
-use Rattle.node_loop.specs.Archives.{Moment, ArchiveLeftAt, KeptAt}
+use Rattle.node_loop.specs.Archives.{Moment, Reach, ArchiveLeftAt, KeptAt}
 use Rattle.node_loop.specs.Running.{IsNext}
 use Rattle.node_loop.proofs.Stepping.{with_link, has_cause, same_failed, IsOfLink, of_link, link_alone}
 use Rattle.node_loop.proofs.Turning.{turns_correct, reminds_peer}
@@ -169,26 +169,28 @@ if_failed faults.Disk P p = p
 if_failed (faults.Full x) P p = p
 
 pub ends_so : {S E C : Type 0} (m : Meaning S E C KeyRow) (w : Setting) (past : List Event) (numbers : List ℕ) (here : List _) (tells : Tells) (base now : Outs)
-    (fault : Fault) (end : ServeEnd) (s : Serving) (sooner news : List LinkAct) (rule : Want)
-    → IsEndOf fault end → StopsPartway tells base now fault s.events sooner news → IfFailed fault (AreHere m w (so_far past s) numbers here) → EndsKept {S = S} {E = E} {C = C} m w past numbers here tells base now end s sooner news rule
-ends_so m w past numbers here tells base now faults.Link end s sooner news rule is stops stand = rw is (stops, stand)
-ends_so m w past numbers here tells base now faults.Tape end s sooner news rule is stops stand = rw is (stops, stand)
-ends_so m w past numbers here tells base now faults.Mem end s sooner news rule is stops stand = rw is stops
-ends_so m w past numbers here tells base now faults.Disk end s sooner news rule is stops stand = rw is (stops, stand)
-ends_so m w past numbers here tells base now (faults.Full x) end s sooner news rule is stops stand = rw is (stops, stand)
+    (fault : Fault) (end : ServeEnd) (earlier : List Event) (s : Serving) (sooner news : List LinkAct) (rule : Want)
+    → IsEndOf fault end → StopsPartway tells base now fault earlier s.events sooner news → IfFailed fault (AreHere m w (so_far past s) numbers here)
+    → EndsKept {S = S} {E = E} {C = C} m w past numbers here tells base now end earlier s sooner news rule
+ends_so m w past numbers here tells base now faults.Link end earlier s sooner news rule is stops stand = rw is (stops, stand)
+ends_so m w past numbers here tells base now faults.Tape end earlier s sooner news rule is stops stand = rw is (stops, stand)
+ends_so m w past numbers here tells base now faults.Mem end earlier s sooner news rule is stops stand = rw is stops
+ends_so m w past numbers here tells base now faults.Disk end earlier s sooner news rule is stops stand = rw is (stops, stand)
+ends_so m w past numbers here tells base now (faults.Full x) end earlier s sooner news rule is stops stand = rw is (stops, stand)
 
 -- what was kept at a fault was at the end that it is
-pub left_end : (now : Moment) (none : Type 0) (kept group older : List Event) (fault : Fault) (end : ServeEnd) → IsEndOf fault end → ArchiveLeftAt now none kept group older fault
-    → KeptAt now none kept group older end
-left_end now none kept group older faults.Link end is left = rw is left
-left_end now none kept group older faults.Tape end is left = rw is left
-left_end now none kept group older faults.Mem end is left = rw is left
-left_end now none kept group older faults.Disk end is left = rw is left
-left_end now none kept group older (faults.Full x) end is left = rw is left
+pub left_end : (now : Moment) (far : Reach) (kept group older : List Event) (fault : Fault) (end : ServeEnd) → IsEndOf fault end → ArchiveLeftAt now far kept group older fault
+    → KeptAt now far kept group older end
+left_end now far kept group older faults.Link end is left = rw is left
+left_end now far kept group older faults.Tape end is left = rw is left
+left_end now far kept group older faults.Mem end is left = rw is left
+left_end now far kept group older faults.Disk end is left = rw is left
+left_end now far kept group older (faults.Full x) end is left = rw is left
 
--- all was where the link gave none
-pub left_none : (now : Moment) (none : Type 0) (kept group older : List Event) (fault : Fault) → IsOfLink fault → now.stands kept → ArchiveLeftAt now none kept group older fault
-left_none now none kept group older fault own stands = of_link (λ x. ArchiveLeftAt now none kept group older x) (inl stands) (inl stands) fault own
+-- where all was written, all was kept where the link gave none
+pub left_none : (now : Moment) (far : Reach) (kept group older : List Event) (fault : Fault) → IsOfLink fault → far.whole → now.stands kept → ArchiveLeftAt now far kept group older fault
+left_none now far kept group older fault own written stands =
+    of_link (λ x. ArchiveLeftAt now far kept group older x) (inl (written, stands)) (inl (written, inl stands)) fault own
 
 -- ---- where none of the first items is left
 

@@ -85,13 +85,13 @@ of_link P link short faults.Tape own = absurd own
 of_link P link short faults.Disk own = absurd own
 of_link P link short (faults.Full x) own = absurd own
 
--- and so of the tape
-pub of_tape : (P : Fault → Type 0) → P faults.Tape → P faults.Mem → (fault : Fault) → IsOfTape fault → P fault
-of_tape P tape short faults.Tape own = tape
-of_tape P tape short faults.Mem own = short
-of_tape P tape short faults.Link own = absurd own
-of_tape P tape short faults.Disk own = absurd own
-of_tape P tape short (faults.Full x) own = absurd own
+-- and what holds of the tape's
+pub of_tape : (P : Fault → Type 0) → P faults.Tape → (fault : Fault) → IsOfTape fault → P fault
+of_tape P tape faults.Tape own = tape
+of_tape P tape faults.Mem own = absurd own
+of_tape P tape faults.Link own = absurd own
+of_tape P tape faults.Disk own = absurd own
+of_tape P tape (faults.Full x) own = absurd own
 
 -- the link's faults are of it
 pub link_alone : (x : LinkFault) (fault : Fault) → IsFaultOfLink x fault → IsOfLink fault
@@ -106,18 +106,18 @@ has_cause A base o events acts told tells count link_faults.Failed fault is agre
 has_cause A base o events acts told tells count link_faults.Mem fault is agrees counts = rw is (agrees.tape_stands, inr (counts ∙ ap short_once agrees.link_stands))
 
 -- all that was written was written before
-pub whole_order : (tells : Tells) (base o : Outs) (events : List Event) (sooner : List LinkAct) (fault : Fault) → IsOfLink fault → AllWritten tells base o events
-    → InOrder tells base o fault events sooner
-whole_order tells base o events sooner fault own written = of_link (λ x. InOrder tells base o x events sooner) (inl written) (inl written) fault own
+pub whole_order : (tells : Tells) (base o : Outs) (earlier events : List Event) (sooner : List LinkAct) (fault : Fault) → IsOfLink fault → AllWritten tells base o events
+    → InOrder tells base o fault earlier events sooner
+whole_order tells base o earlier events sooner fault own written = of_link (λ x. InOrder tells base o x earlier events sooner) (inl written) (inl written) fault own
 
 -- of what is new some was told before, and then a part of the rest
-pub link_stops : (tells : Tells) (base o : Outs) (events : List Event) (sooner done news all told : List LinkAct) (count : FaultCounts) (x : LinkFault) (fault : Fault)
+pub link_stops : (tells : Tells) (base o : Outs) (earlier events : List Event) (sooner done news all told : List LinkAct) (count : FaultCounts) (x : LinkFault) (fault : Fault)
     → IsFaultOfLink x fault → all ≡ news ++ done → Agrees tells base o events (done ++ sooner) → LinkDid tells.link news o.told told o.link_faults count (Err x)
-    → StopsPartway tells base (with_link o told count) fault events sooner all
-link_stops tells base o events sooner done news all told count x fault is both agrees did = record {
+    → StopsPartway tells base (with_link o told count) fault earlier events sooner all
+link_stops tells base o earlier events sooner done news all told count x fault is both agrees did = record {
   taken = λ t. all_written base.taken o.taken (events_text events) (agrees.taken t);
   told = λ t. rw both (back_then (sooner ++ base.told) o.told told done news (agrees.told t ∙ append_assoc done sooner base.told) (did.back t));
-  order = whole_order tells base (with_link o told count) events sooner fault (link_alone x fault is) agrees.taken;
+  order = whole_order tells base (with_link o told count) earlier events sooner fault (link_alone x fault is) agrees.taken;
   tape_later = omega (arith, agrees.tape_stands);
   link_later = omega (arith, same_failed agrees.link_stands, did.later);
   cause = has_cause (Unit {0}) base o events (done ++ sooner) told tells count x fault is agrees did.count;

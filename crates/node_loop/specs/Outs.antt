@@ -71,7 +71,7 @@ pub record Agrees (tells : Tells) (base now : Outs) (events : List Event) (acts 
   pub tape_stands : now.tape_faults ≡ base.tape_faults
   pub link_stands : now.link_faults ≡ base.link_faults
 
--- ---- at a fault, where the calls of the newest group are `news`, and those before are `sooner`
+-- ---- at a fault, where the events before the newest group's are `earlier`, the calls of that group are `news`, and those before are `sooner`
 
 -- it holds where the tape or the link failed
 abbrev pub IfFailed : Fault → Type 0 → Type 0
@@ -98,27 +98,31 @@ AllWritten tells base now events = tells.tape ≡ true → now.taken ≡ base.ta
 abbrev pub NoneSent : Tells → Outs → Outs → List LinkAct → Type 0
 NoneSent tells base now sooner = tells.link ≡ true → now.told ≡ sooner ++ base.told
 
+-- nothing came of the newest group: the tape took exactly the events before it, and the link told nothing of it
+abbrev pub NoneCame : Tells → Outs → Outs → List Event → List LinkAct → Type 0
+NoneCame tells base now earlier sooner = AllWritten tells base now earlier × NoneSent tells base now sooner
+
 -- The events of a group are written, and then kept, before its frames and its replies go out: where the tape fails none of these did; where the
--- link fails all events were written, unless it failed while it was asked for an item that joins the group, of which nothing went out then; and
--- where the newest can't be kept they were written, and nothing went out.
-abbrev pub InOrder : Tells → Outs → Outs → Fault → List Event → List LinkAct → Type 0
-InOrder tells base now faults.Tape events sooner = NoneSent tells base now sooner
-InOrder tells base now faults.Link events sooner = AllWritten tells base now events ⊎ NoneSent tells base now sooner
-InOrder tells base now faults.Mem events sooner = AllWritten tells base now events ⊎ NoneSent tells base now sooner
-InOrder tells base now faults.Disk events sooner = AllWritten tells base now events × NoneSent tells base now sooner
-InOrder tells base now (faults.Full x) events sooner = AllWritten tells base now events × NoneSent tells base now sooner
+-- link fails, or memory runs out, all events were written, unless it was while the group was gathered, as the link was asked for an item that joins
+-- it: then nothing came of the group. Where the newest can't be kept they were written, and nothing went out.
+abbrev pub InOrder : Tells → Outs → Outs → Fault → List Event → List Event → List LinkAct → Type 0
+InOrder tells base now faults.Tape earlier events sooner = NoneSent tells base now sooner
+InOrder tells base now faults.Link earlier events sooner = AllWritten tells base now events ⊎ NoneCame tells base now earlier sooner
+InOrder tells base now faults.Mem earlier events sooner = AllWritten tells base now events ⊎ NoneCame tells base now earlier sooner
+InOrder tells base now faults.Disk earlier events sooner = AllWritten tells base now events × NoneSent tells base now sooner
+InOrder tells base now (faults.Full x) earlier events sooner = AllWritten tells base now events × NoneSent tells base now sooner
 
 -- the tape took a front of the events' text, and the link told the calls that are sooner, and of the news a part
-pub record StopsPartway (tells : Tells) (base now : Outs) (fault : Fault) (events : List Event) (sooner news : List LinkAct) : Type 0 where
+pub record StopsPartway (tells : Tells) (base now : Outs) (fault : Fault) (earlier events : List Event) (sooner news : List LinkAct) : Type 0 where
   pub taken : tells.tape ≡ true → TookFront base.taken now.taken (events_text events)
   pub told : tells.link ≡ true → TookBack (sooner ++ base.told) now.told news
-  pub order : InOrder tells base now fault events sooner
+  pub order : InOrder tells base now fault earlier events sooner
   pub tape_later : base.tape_faults ≤ now.tape_faults
   pub link_later : base.link_faults.failed ≤ now.link_faults.failed
   pub cause : HasCauses base now fault
 
 -- ---- each outcome of a step that leads to these events and calls
 
-abbrev pub StepsInOrder : {A : Type 0} → Tells → Outs → Outs → Result A Fault → List Event → List LinkAct → List LinkAct → List LinkAct → Type 0
-StepsInOrder tells base now (Ok done) events acts sooner news = Agrees tells base now events acts
-StepsInOrder tells base now (Err fault) events acts sooner news = StopsPartway tells base now fault events sooner news
+abbrev pub StepsInOrder : {A : Type 0} → Tells → Outs → Outs → Result A Fault → List Event → List Event → List LinkAct → List LinkAct → List LinkAct → Type 0
+StepsInOrder tells base now (Ok done) earlier events acts sooner news = Agrees tells base now events acts
+StepsInOrder tells base now (Err fault) earlier events acts sooner news = StopsPartway tells base now fault earlier events sooner news

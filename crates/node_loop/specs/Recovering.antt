@@ -7,8 +7,9 @@ use Rattle.world_model.specs.World.{Setting}
 use Rattle.world_model.specs.MadeOrder.{MadeFrame, all_made}
 use Rattle.node_loop.specs.Calls.{Outcome, event_called, silent, submitted}
 use Rattle.node_loop.specs.Peers.{Peers, no_peers, keeps, with_list}
-use Rattle.node_loop.specs.Serving.{Serving, frames_made_by, so_far}
+use Rattle.node_loop.specs.Serving.{Serving, Round, frames_made_by, so_far}
 use Rattle.node_loop.specs.Deeds.{Deed, Made, pushed}
+use Rattle.node_loop.specs.Told.{after_groups}
 use Rattle.node_loop.specs.Waiting.{Waiting, nobody}
 
 -- a frame is kept; where it doesn't fit, the oldest are dropped first
@@ -48,3 +49,8 @@ recalled_deeds w past = pushed (map Made (all_made w past)) []
 -- serving with all events that the tape takes, of which the past ones come first
 abbrev pub with_past : List Event → Serving → Serving
 with_past past s = record s { events = so_far past s }
+
+-- the events before the newest group's; where there is no group yet, those before the past ones, which are none
+abbrev pub earlier_with : Setting → List Event → List (List Round) → List Event
+earlier_with w past [] = []
+earlier_with w past (group ∷ older) = so_far past (after_groups w past (recovered w past) older)

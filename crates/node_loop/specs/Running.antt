@@ -48,10 +48,10 @@ pub record Gathered {S E C : Type 0} (m : Meaning S E C KeyRow) (w : Setting) (p
   pub agrees : Agrees tells base now.outs (after_groups w past start older).events (given_in newest ++ told_from w past start older)
   pub kept : now.stands (kept_of w past (after_groups w past start older).events)
 
--- a fault of the tape, or want of memory
+-- a fault of the tape
 abbrev pub IsOfTape : Fault → Type 0
 IsOfTape faults.Tape = Unit {0}
-IsOfTape faults.Mem = Unit {0}
+IsOfTape faults.Mem = ⊥
 IsOfTape faults.Link = ⊥
 IsOfTape faults.Disk = ⊥
 IsOfTape (faults.Full x) = ⊥

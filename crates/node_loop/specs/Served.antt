@@ -15,7 +15,7 @@ use Rattle.node_loop.specs.declared.end.Fault.TheVariants as faults
 use Rattle.node_loop.specs.declared.end.ServeEnd.{ServeEnd}
 use Rattle.node_loop.specs.declared.end.ServeEnd.TheVariants as ends
 use Rattle.node_loop.specs.Serving.{Serving, begin, so_far, Want, Finishes, Halts, Asks, wants, Round}
-use Rattle.node_loop.specs.Told.{AreGroups, after_groups, newest_calls, sooner}
+use Rattle.node_loop.specs.Told.{AreGroups, after_groups, before_newest, newest_calls, sooner}
 use Rattle.node_loop.specs.Outs.{Outs, Tells, Agrees, StopsPartway}
 
 -- The replicas of a world that are here are its correct ones: replica k of the list is that of the k-th number, as it stands after these
@@ -42,24 +42,26 @@ pub record Whole {S E C : Type 0} (m : Meaning S E C KeyRow) (w : Setting) (past
   pub stand : AreHere m w (so_far past s) numbers here
 
 -- it broke at a fault
-abbrev pub Breaks : Tells → Outs → Outs → ServeEnd → List Event → List LinkAct → List LinkAct → Type 0
-Breaks tells base now ends.LinkFault events sooner news = StopsPartway tells base now faults.Link events sooner news
-Breaks tells base now ends.TapeFault events sooner news = StopsPartway tells base now faults.Tape events sooner news
-Breaks tells base now ends.Mem events sooner news = StopsPartway tells base now faults.Mem events sooner news
-Breaks tells base now end events sooner news = ⊥
+abbrev pub Breaks : Tells → Outs → Outs → ServeEnd → List Event → List Event → List LinkAct → List LinkAct → Type 0
+Breaks tells base now ends.LinkFault earlier events sooner news = StopsPartway tells base now faults.Link earlier events sooner news
+Breaks tells base now ends.TapeFault earlier events sooner news = StopsPartway tells base now faults.Tape earlier events sooner news
+Breaks tells base now ends.Mem earlier events sooner news = StopsPartway tells base now faults.Mem earlier events sooner news
+Breaks tells base now end earlier events sooner news = ⊥
 
--- Each end of serving that keeps no events, where the newest group's calls are `news`, and those before are `sooner`. Unless memory ran out,
--- the replicas stand where all events leave them, also those that weren't written.
-abbrev pub EndsSo : {S E C : Type 0} → Meaning S E C KeyRow → Setting → List Event → List ℕ → List (Replica S E C) → Tells → Outs → Outs → ServeEnd → Serving
-    → List LinkAct → List LinkAct → Want → Type 0
-EndsSo m w past numbers here tells base now ends.Done s sooner news rule = Whole m w past numbers here tells base now s (news ++ sooner) rule Finishes
-EndsSo m w past numbers here tells base now ends.Limit s sooner news rule = Whole m w past numbers here tells base now s (news ++ sooner) rule Halts
-EndsSo m w past numbers here tells base now ends.End s sooner news rule = Whole m w past numbers here tells base now s (Gives items.End ∷ (news ++ sooner)) rule Asks
-EndsSo m w past numbers here tells base now ends.LinkFault s sooner news rule = Breaks tells base now ends.LinkFault s.events sooner news × AreHere m w (so_far past s) numbers here
-EndsSo m w past numbers here tells base now ends.TapeFault s sooner news rule = Breaks tells base now ends.TapeFault s.events sooner news × AreHere m w (so_far past s) numbers here
-EndsSo m w past numbers here tells base now ends.Mem s sooner news rule = Breaks tells base now ends.Mem s.events sooner news
-EndsSo m w past numbers here tells base now ends.DiskFault s sooner news rule = ⊥
-EndsSo m w past numbers here tells base now (ends.JournalFull x) s sooner news rule = ⊥
+-- Each end of serving that keeps no events, where the events before the newest group's are `earlier`, that group's calls are `news`, and those before
+-- are `sooner`. Unless memory ran out, the replicas stand where all events leave them, also those that weren't written.
+abbrev pub EndsSo : {S E C : Type 0} → Meaning S E C KeyRow → Setting → List Event → List ℕ → List (Replica S E C) → Tells → Outs → Outs → ServeEnd → List Event
+    → Serving → List LinkAct → List LinkAct → Want → Type 0
+EndsSo m w past numbers here tells base now ends.Done earlier s sooner news rule = Whole m w past numbers here tells base now s (news ++ sooner) rule Finishes
+EndsSo m w past numbers here tells base now ends.Limit earlier s sooner news rule = Whole m w past numbers here tells base now s (news ++ sooner) rule Halts
+EndsSo m w past numbers here tells base now ends.End earlier s sooner news rule = Whole m w past numbers here tells base now s (Gives items.End ∷ (news ++ sooner)) rule Asks
+EndsSo m w past numbers here tells base now ends.LinkFault earlier s sooner news rule =
+    Breaks tells base now ends.LinkFault earlier s.events sooner news × AreHere m w (so_far past s) numbers here
+EndsSo m w past numbers here tells base now ends.TapeFault earlier s sooner news rule =
+    Breaks tells base now ends.TapeFault earlier s.events sooner news × AreHere m w (so_far past s) numbers here
+EndsSo m w past numbers here tells base now ends.Mem earlier s sooner news rule = Breaks tells base now ends.Mem earlier s.events sooner news
+EndsSo m w past numbers here tells base now ends.DiskFault earlier s sooner news rule = ⊥
+EndsSo m w past numbers here tells base now (ends.JournalFull x) earlier s sooner news rule = ⊥
 
 -- There are groups of rounds, each round what the rules said, after which serving ended so. The items that these took are those that the link gave,
 -- before its end: where it tells, each call but those of the newest group is told.
@@ -67,5 +69,5 @@ pub record Serves {S E C : Type 0} (m : Meaning S E C KeyRow) (w : Setting) (pas
     (tells : Tells) (base now : Outs) (end : ServeEnd) (until limit : ℕ) (first : List LinkItem) : Type 0 where
   pub groups : List (List Round)
   pub are : AreGroups w past until limit (begin first) groups
-  pub so : EndsSo m w past numbers here tells base now end (after_groups w past (begin first) groups) (sooner w past (begin first) groups) (newest_calls w past (begin first) groups)
-      (wants w past until limit (after_groups w past (begin first) groups))
+  pub so : EndsSo m w past numbers here tells base now end (before_newest w past (begin first) groups).events (after_groups w past (begin first) groups)
+      (sooner w past (begin first) groups) (newest_calls w past (begin first) groups) (wants w past until limit (after_groups w past (begin first) groups))

@@ -9,25 +9,27 @@ use Rattle.world_model.specs.World.{Setting}
 use Rattle.node_loop.specs.declared.end.Fault.TheVariants as faults
 use Rattle.node_loop.specs.declared.end.ServeEnd.{ServeEnd}
 use Rattle.node_loop.specs.declared.end.ServeEnd.TheVariants as ends
-use Rattle.node_loop.specs.Archives.{Moment, KeptAt}
+use Rattle.node_loop.specs.Archives.{Moment, KeptAt, reach}
 use Rattle.node_loop.specs.Keeping.{kept_of}
-use Rattle.node_loop.specs.Outs.{Outs, Tells, NoneSent, StopsPartway}
+use Rattle.node_loop.specs.Outs.{Outs, Tells, StopsPartway}
 use Rattle.node_loop.specs.Served.{AreHere, EndsSo}
 use Rattle.node_loop.specs.Serving.{Serving, so_far, Want, wants, Round}
 use Rattle.node_loop.specs.Told.{AreGroups, after_groups, newest_calls, sooner, before_newest, newest_events}
 
 -- it broke at a fault of the archive
-abbrev pub BreaksOff : Tells → Outs → Outs → ServeEnd → List Event → List LinkAct → List LinkAct → Type 0
-BreaksOff tells base now ends.DiskFault events sooner news = StopsPartway tells base now faults.Disk events sooner news
-BreaksOff tells base now (ends.JournalFull x) events sooner news = StopsPartway tells base now (faults.Full x) events sooner news
-BreaksOff tells base now end events sooner news = ⊥
+abbrev pub BreaksOff : Tells → Outs → Outs → ServeEnd → List Event → List Event → List LinkAct → List LinkAct → Type 0
+BreaksOff tells base now ends.DiskFault earlier events sooner news = StopsPartway tells base now faults.Disk earlier events sooner news
+BreaksOff tells base now (ends.JournalFull x) earlier events sooner news = StopsPartway tells base now (faults.Full x) earlier events sooner news
+BreaksOff tells base now end earlier events sooner news = ⊥
 
 -- each end: where the archive fails, the newest group's events were written, and nothing of them went out
-abbrev pub EndsKept : {S E C : Type 0} → Meaning S E C KeyRow → Setting → List Event → List ℕ → List (Replica S E C) → Tells → Outs → Outs → ServeEnd → Serving
-    → List LinkAct → List LinkAct → Want → Type 0
-EndsKept m w past numbers here tells base now ends.DiskFault s sooner news rule = BreaksOff tells base now ends.DiskFault s.events sooner news × AreHere m w (so_far past s) numbers here
-EndsKept m w past numbers here tells base now (ends.JournalFull x) s sooner news rule = BreaksOff tells base now (ends.JournalFull x) s.events sooner news × AreHere m w (so_far past s) numbers here
-EndsKept m w past numbers here tells base now end s sooner news rule = EndsSo m w past numbers here tells base now end s sooner news rule
+abbrev pub EndsKept : {S E C : Type 0} → Meaning S E C KeyRow → Setting → List Event → List ℕ → List (Replica S E C) → Tells → Outs → Outs → ServeEnd → List Event
+    → Serving → List LinkAct → List LinkAct → Want → Type 0
+EndsKept m w past numbers here tells base now ends.DiskFault earlier s sooner news rule =
+    BreaksOff tells base now ends.DiskFault earlier s.events sooner news × AreHere m w (so_far past s) numbers here
+EndsKept m w past numbers here tells base now (ends.JournalFull x) earlier s sooner news rule =
+    BreaksOff tells base now (ends.JournalFull x) earlier s.events sooner news × AreHere m w (so_far past s) numbers here
+EndsKept m w past numbers here tells base now end earlier s sooner news rule = EndsSo m w past numbers here tells base now end earlier s sooner news rule
 
 -- of the newest group's events, those that are kept, and of those before
 abbrev pub newest_kept : Setting → List Event → Serving → List (List Round) → List Event
@@ -42,7 +44,7 @@ pub record ServesKept {S E C : Type 0} (m : Meaning S E C KeyRow) (w : Setting) 
     (tells : Tells) (base : Outs) (now : Moment) (end : ServeEnd) (until limit : ℕ) (start : Serving) : Type 0 where
   pub groups : List (List Round)
   pub are : AreGroups w past until limit start groups
-  pub so : EndsKept m w past numbers here tells base now.outs end (after_groups w past start groups) (sooner w past start groups) (newest_calls w past start groups)
-      (wants w past until limit (after_groups w past start groups))
-  pub kept : KeptAt now (NoneSent tells base now.outs (sooner w past start groups)) (kept_of w past (after_groups w past start groups).events)
-      (newest_kept w past start groups) (earlier_kept w past start groups) end
+  pub so : EndsKept m w past numbers here tells base now.outs end (before_newest w past start groups).events (after_groups w past start groups)
+      (sooner w past start groups) (newest_calls w past start groups) (wants w past until limit (after_groups w past start groups))
+  pub kept : KeptAt now (reach tells base now.outs (before_newest w past start groups).events (after_groups w past start groups).events (sooner w past start groups))
+      (kept_of w past (after_groups w past start groups).events) (newest_kept w past start groups) (earlier_kept w past start groups) end

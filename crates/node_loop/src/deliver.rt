@@ -1,5 +1,5 @@
 //! What a tape and a link are given.
-ghost use Rattle.std.specs.Prelude.{◌≡◌, ℕ, ◌<◌, ◌≤◌, ◌++◌, ◌∷◌, List, length, map, reverse, true, All, IfSome, IfErr, OnOk, OnErr};
+ghost use Rattle.std.specs.Prelude.{◌≡◌, ℕ, ◌<◌, ◌≤◌, ◌++◌, ◌∷◌, List, length, map, reverse, true, [], All, IfSome, IfErr, OnOk, OnErr, MatchOption};
 ghost use Rattle.std.specs.List.{AllByRecursion};
 ghost use Rattle.ritas_base.specs.declared.event.Event.{Event};
 ghost use Rattle.outside.specs.Faults.{count_after};
@@ -110,6 +110,33 @@ fn send_kept<R: Net + Wait, L: Link>(
     Ok(())
 }
 
+// What is kept for the peers of a replica, if something may be for this one.
+fn resume_of<S: Service, E: Broadcast, C: Coin + Drop>(
+    house: &House<S, E, C>,
+    at: u8,
+    peer: u8,
+) -> Option<&Resume>
+    ensures peer { IfSome result (λ resume. peer < length resume.now) }
+    ensures kept { let m = meaning_of S.Service E.Broadcast C.Coin in
+        (w : Setting) (es : List Event) (numbers : List ℕ) (ws : Waiting) (p : Peers) → HouseStands m w es numbers house.now ws p
+        → FitsPeers w p.keeping at (More.Kept peer)
+        → MatchOption result (p.keeping at peer ≡ []) (λ resume. kept_for resume.now peer ≡ p.keeping at peer) }
+{
+    let Some(place) = house.place_of(at) else {
+        // Nothing is kept at what isn't here.
+        return None;
+    };
+    let Some(keeper) = house.keepers.get(place) else {
+        // There is no such place.
+        return None;
+    };
+    if usize::from(peer) >= keeper.resume.peers() {
+        // There is no such peer.
+        return None;
+    }
+    Some(&keeper.resume)
+}
+
 // Sends all that is kept for a peer of a replica again.
 fn send_again<R: Net + Wait, S: Service, E: Broadcast, C: Coin + Drop, L: Link>(
     rt: &R,
@@ -124,19 +151,10 @@ fn send_again<R: Net + Wait, S: Service, E: Broadcast, C: Coin + Drop, L: Link>(
         → FitsPeers w p.keeping at (More.Kept peer)
         → LinkTook L.Link (each_act (kept_by at peer) (p.keeping at peer)) link.old link.new result }
 {
-    let Some(place) = house.place_of(at) else {
-        // Nothing is kept at what isn't here.
-        return Ok(());
-    };
-    let Some(keeper) = house.keepers.get(place) else {
-        // There is no such place.
-        return Ok(());
-    };
-    if usize::from(peer) >= keeper.resume.peers() {
-        // There is no such peer.
-        return Ok(());
+    match resume_of(house, at, peer) {
+        Some(resume) => send_kept(rt, alloc, link, at, resume, peer),
+        None => Ok(()),
     }
-    send_kept(rt, alloc, link, at, &keeper.resume, peer)
 }
 
 // Sends what goes to a peer besides.
@@ -237,7 +255,7 @@ fn write<K: Sink>(tape: &mut K, text: &[u8]) -> Result<(), Fault>
         older acts
         → StepsInOrder tells base (record { taken = K.taken tape.new; tape_faults = K.faults tape.new; told = told; link_faults = link_faults })
         result
-        (news ++ older) acts acts outs }
+        older (news ++ older) acts acts outs }
 {
     match write_all(tape, text) {
         Ok(()) => Ok(()),
@@ -255,19 +273,10 @@ fn count_kept<S: Service, E: Broadcast, C: Coin + Drop>(
         (w : Setting) (es : List Event) (numbers : List ℕ) (ws : Waiting) (p : Peers) → HouseStands m w es numbers house.now ws p
         → FitsPeers w p.keeping at (More.Kept peer) → result ≡ length (p.keeping at peer) }
 {
-    let Some(place) = house.place_of(at) else {
-        // Nothing is kept at what isn't here.
-        return 0;
-    };
-    let Some(keeper) = house.keepers.get(place) else {
-        // There is no such place.
-        return 0;
-    };
-    if usize::from(peer) >= keeper.resume.peers() {
-        // There is no such peer.
-        return 0;
+    match resume_of(house, at, peer) {
+        Some(resume) => resume.count(peer),
+        None => 0,
     }
-    keeper.resume.count(peer)
 }
 
 // What goes to a peer besides, as nothing goes out again where nothing is kept.

@@ -105,9 +105,9 @@ module _ (h : Header) (plan : LinkPlan) (tells : Tells) where
       subst (TookPart h plan tells base now events) (sym more.1) (part more.0)
 
   -- nothing was served
-  pub not_begun : (base now : Outs) (s : Serving) (sooner news : List LinkAct) (rule : Want) (end : ServeEnd) → HasFailed (heading h) plan tells base now end
-      → SessionEnds h plan tells base now end s sooner news rule
-  not_begun base now s sooner news rule end failed = by_end end failed
+  pub not_begun : (base now : Outs) (earlier : List Event) (s : Serving) (sooner news : List LinkAct) (rule : Want) (end : ServeEnd) → HasFailed (heading h) plan tells base now end
+      → SessionEnds h plan tells base now end earlier s sooner news rule
+  not_begun base now earlier s sooner news rule end failed = by_end end failed
     where
       part : (more : List LinkAct) → TookPart h plan tells base now s.events (more ++ (news ++ sooner))
       part more = record {
@@ -120,7 +120,7 @@ module _ (h : Header) (plan : LinkPlan) (tells : Tells) where
         told = λ t. let acts = (more ++ (news ++ sooner)) ++ Starts plan ∷ [] in record { rest = acts; back = []; parts = sym (append-nil acts); told = failed.told t };
       }
 
-      by_end : (x : ServeEnd) → HasFailed (heading h) plan tells base now x → SessionEnds h plan tells base now x s sooner news rule
+      by_end : (x : ServeEnd) → HasFailed (heading h) plan tells base now x → SessionEnds h plan tells base now x earlier s sooner news rule
       by_end ends.LinkFault why = (why.cause, part [], NotStarted why)
       by_end ends.TapeFault why = (why.cause, last_taken base now s.events (news ++ sooner) rule part, NotStarted why)
       by_end ends.Mem why = (why.cause, part [], NotStarted why)

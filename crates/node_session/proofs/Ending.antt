@@ -1,5 +1,6 @@
 -- How a session ends, by how serving it did.
 use Rattle.std.proofs.Common.{◌≡◌, ℕ, ◌≤◌, Bool, true, false, List, [], ◌∷◌, ◌++◌, refl, sym, ◌∙◌, ap, subst, arith, inl, inr}
+use Rattle.ritas_base.specs.declared.event.Event.{Event}
 use Rattle.outside.specs.Faults.{count_after}
 use Rattle.outside.specs.LinkCallsLaws.{back_then}
 use Rattle.outside.specs.Links.{LinkAct, Gives, failed_once, short_once}
@@ -25,9 +26,9 @@ same_failed e = ap (λ (n : FaultCounts). n.failed) e
 
 module _ (x : Session) (w : Setting) (tells : Tells) where
   module _ {S E C : Type 0} (m : Meaning S E C KeyRow) (numbers : List ℕ) (here : List (Replica S E C)) (base mid now last : Outs) (begun : HasBegun (heading x.header) x.plan tells base mid) where
-    module _ (s : Serving) (sooner news : List LinkAct) (rule : Want) where
+    module _ (earlier : List Event) (s : Serving) (sooner news : List LinkAct) (rule : Want) where
       abbrev EndedAt : ServeEnd → Type 0
-      EndedAt end = SessionEnds x.header x.plan tells base last end s sooner news rule
+      EndedAt end = SessionEnds x.header x.plan tells base last end earlier s sooner news rule
 
       -- it ended by its rules, and the end mark was written, or not
       pub closes : (reason : Want) (acts : List LinkAct) (end result : ServeEnd) → Whole m w [] numbers here tells mid now s acts rule reason
@@ -46,15 +47,15 @@ module _ (x : Session) (w : Setting) (tells : Tells) where
           )
 
       -- a fault came
-      pub breaks : (fault : _) (more : List LinkAct) → StopsPartway tells mid now fault s.events sooner news → last ≡ now
+      pub breaks : (fault : _) (more : List LinkAct) → StopsPartway tells mid now fault earlier s.events sooner news → last ≡ now
           → TookPart x.header x.plan tells base last s.events (more ++ (news ++ sooner))
       breaks fault more stops same =
           subst (λ (o : Outs). TookPart x.header x.plan tells base o s.events (more ++ (news ++ sooner))) (sym same)
           (part_taken x.header x.plan tells base mid now s.events (news ++ sooner) more begun stops.taken
           (λ t. back_then mid.told (sooner ++ mid.told) now.told sooner news refl (stops.told t)))
 
-      pub broke : (end : ServeEnd) → Breaks tells mid now end s.events sooner news → last ≡ now → CameTo x.header x.plan tells base last end s sooner news rule
-      broke end stops same = Broke mid begun (subst (λ (o : Outs). Breaks tells mid o end s.events sooner news) (sym same) stops)
+      pub broke : (end : ServeEnd) → Breaks tells mid now end earlier s.events sooner news → last ≡ now → CameTo x.header x.plan tells base last end earlier s sooner news rule
+      broke end stops same = Broke mid begun (subst (λ (o : Outs). Breaks tells mid o end earlier s.events sooner news) (sym same) stops)
 
       -- since it began
       pub tape_failed : TapeFailed mid now → last ≡ now → TapeFailed base last
@@ -69,7 +70,7 @@ module _ (x : Session) (w : Setting) (tells : Tells) where
         elim cause.1 [ inl none ↦ inl (none ∙ begun.link_stands) | inr one ↦ inr (one ∙ ap short_once begun.link_stands) ],
       )
 
-      pub ended : (end result : ServeEnd) → EndsSo m w [] numbers here tells mid now end s sooner news rule → last.told ≡ now.told → last.link_faults ≡ now.link_faults
+      pub ended : (end result : ServeEnd) → EndsSo m w [] numbers here tells mid now end earlier s sooner news rule → last.told ≡ now.told → last.link_faults ≡ now.link_faults
           → (is_reason end ≡ true → Closes tells.tape now.taken last.taken now.tape_faults last.tape_faults end result)
           → (is_reason end ≡ false → (result ≡ end) × (last ≡ now)) → EndedAt result
       ended ends.Done result so same link closed kept = closes Finishes (news ++ sooner) ends.Done result so same link (closed refl) (λ took. took) refl
@@ -95,21 +96,21 @@ module _ (x : Session) (w : Setting) (tells : Tells) where
       ended end result so same link closed kept = absurd so
 
     -- counts of faults don't fall
-    pub tape_on : (s : Serving) (sooner news : List LinkAct) (rule : Want) (end : ServeEnd) → EndsSo m w [] numbers here tells mid now end s sooner news rule → mid.tape_faults ≤ now.tape_faults
-    tape_on s sooner news rule ends.LinkFault so = so.0.tape_later
-    tape_on s sooner news rule ends.TapeFault so = so.0.tape_later
-    tape_on s sooner news rule ends.Mem so = so.tape_later
-    tape_on s sooner news rule ends.DiskFault so = absurd so
-    tape_on s sooner news rule (ends.JournalFull x) so = absurd so
-    tape_on s sooner news rule end so = omega (arith, so.agrees.tape_stands)
+    pub tape_on : (earlier : List Event) (s : Serving) (sooner news : List LinkAct) (rule : Want) (end : ServeEnd) → EndsSo m w [] numbers here tells mid now end earlier s sooner news rule → mid.tape_faults ≤ now.tape_faults
+    tape_on earlier s sooner news rule ends.LinkFault so = so.0.tape_later
+    tape_on earlier s sooner news rule ends.TapeFault so = so.0.tape_later
+    tape_on earlier s sooner news rule ends.Mem so = so.tape_later
+    tape_on earlier s sooner news rule ends.DiskFault so = absurd so
+    tape_on earlier s sooner news rule (ends.JournalFull x) so = absurd so
+    tape_on earlier s sooner news rule end so = omega (arith, so.agrees.tape_stands)
 
-    pub link_on : (s : Serving) (sooner news : List LinkAct) (rule : Want) (end : ServeEnd) → EndsSo m w [] numbers here tells mid now end s sooner news rule → mid.link_faults.failed ≤ now.link_faults.failed
-    link_on s sooner news rule ends.LinkFault so = so.0.link_later
-    link_on s sooner news rule ends.TapeFault so = so.0.link_later
-    link_on s sooner news rule ends.Mem so = so.link_later
-    link_on s sooner news rule ends.DiskFault so = absurd so
-    link_on s sooner news rule (ends.JournalFull x) so = absurd so
-    link_on s sooner news rule end so = omega (arith, same_failed so.agrees.link_stands)
+    pub link_on : (earlier : List Event) (s : Serving) (sooner news : List LinkAct) (rule : Want) (end : ServeEnd) → EndsSo m w [] numbers here tells mid now end earlier s sooner news rule → mid.link_faults.failed ≤ now.link_faults.failed
+    link_on earlier s sooner news rule ends.LinkFault so = so.0.link_later
+    link_on earlier s sooner news rule ends.TapeFault so = so.0.link_later
+    link_on earlier s sooner news rule ends.Mem so = so.link_later
+    link_on earlier s sooner news rule ends.DiskFault so = absurd so
+    link_on earlier s sooner news rule (ends.JournalFull x) so = absurd so
+    link_on earlier s sooner news rule end so = omega (arith, same_failed so.agrees.link_stands)
 
     pub close_on : (end result : ServeEnd) → Closes tells.tape now.taken last.taken now.tape_faults last.tape_faults end result → now.tape_faults ≤ last.tape_faults
     close_on end result (Closed is stands closed) = omega (arith, stands)

@@ -33,7 +33,7 @@ use Rattle.node_loop.specs.Laws.{sent_as, ActsAreDeeds, DeedsAreBehind, FramesAr
 use Rattle.node_loop.specs.Outs.{Outs, Tells}
 use Rattle.node_loop.specs.Served.{MayBegin, Serves}
 use Rattle.node_loop.specs.Serving.{Serving, begin, so_far, Round, wants}
-use Rattle.node_loop.specs.Told.{AreGroups, after_groups, told_from, newest_calls, sooner, deeds_from}
+use Rattle.node_loop.specs.Told.{AreGroups, after_groups, before_newest, told_from, newest_calls, sooner, deeds_from}
 use Rattle.node_session.specs.declared.session.Session.{Session}
 use Rattle.node_session.specs.Session.{IsTrueSession, ServesSession}
 use Rattle.node_session.specs.Opening.{HasBegun, HasFailed, Closes, is_reason}
@@ -163,7 +163,7 @@ module _ (x : Session) (first : List LinkItem) (w : Setting) (tells : Tells)
   fails base now end failed = record {
     groups = [];
     are = tt;
-    so = not_begun x.header x.plan tells base now (begin first) [] [] (wants w [] x.until x.limit (begin first)) end failed;
+    so = not_begun x.header x.plan tells base now [] (begin first) [] [] (wants w [] x.until x.limit (begin first)) end failed;
     true_of = session [] tt;
     tape_later = failed.tape_later;
     link_later = failed.link_later;
@@ -174,6 +174,7 @@ module _ (x : Session) (first : List LinkItem) (w : Setting) (tells : Tells)
         → (is_reason end ≡ true → Closes tells.tape now.taken last.taken now.tape_faults last.tape_faults end result)
         → (is_reason end ≡ false → (result ≡ end) × (last ≡ now)) → ServesSession x first w tells base last result
     serves end result run same same_count closed kept =
+        let earlier = (before_newest w [] (begin first) run.groups).events in
         let s = after_groups w [] (begin first) run.groups in
         let old = sooner w [] (begin first) run.groups in
         let new = newest_calls w [] (begin first) run.groups in
@@ -181,8 +182,8 @@ module _ (x : Session) (first : List LinkItem) (w : Setting) (tells : Tells)
         record {
           groups = run.groups;
           are = run.are;
-          so = ended x w tells m numbers here base mid now last begun s old new rule end result run.so same same_count closed kept;
+          so = ended x w tells m numbers here base mid now last begun earlier s old new rule end result run.so same same_count closed kept;
           true_of = session run.groups run.are;
-          tape_later = omega (arith, begun.tape_stands, tape_on x w tells m numbers here base mid now last begun s old new rule end run.so, end_on x w tells m numbers here base mid now last begun end result (is_reason end) refl closed kept);
-          link_later = omega (arith, same_failed begun.link_stands, link_on x w tells m numbers here base mid now last begun s old new rule end run.so, same_failed same_count);
+          tape_later = omega (arith, begun.tape_stands, tape_on x w tells m numbers here base mid now last begun earlier s old new rule end run.so, end_on x w tells m numbers here base mid now last begun end result (is_reason end) refl closed kept);
+          link_later = omega (arith, same_failed begun.link_stands, link_on x w tells m numbers here base mid now last begun earlier s old new rule end run.so, same_failed same_count);
         }

@@ -5,10 +5,12 @@ use Rattle.ritas_base.specs.declared.event.Event.{Event}
 use Rattle.outside.specs.Disks.{DiskState, LeavesOnly, disk_state_of}
 use Rattle.outside.specs.Faults.{Rose}
 use Rattle.outside.specs.Links.{LinkAct, Starts}
+use Rattle.outside.specs.Writing.{TookFront}
 use Rattle.outside.specs.declared.disk.Disk.{Ghosts as DiskGhosts}
 use Rattle.outside.specs.declared.link.LinkPlan.{LinkPlan}
 use Rattle.schedule_file.specs.FileBytes.{limit}
 use Rattle.schedule_file.specs.ReadHeader.{heading}
+use Rattle.schedule_file.specs.Spelling.{FrontOf, header_text}
 use Rattle.schedule_file.specs.declared.header.Header.{Header}
 use Rattle.world_model.specs.World.{Setting}
 use Rattle.cluster_config.specs.declared.node.NodeConfig.{NodeConfig}
@@ -22,11 +24,11 @@ use Rattle.node_loop.specs.declared.archive.ArchiveFault.{ArchiveFault}
 use Rattle.node_loop.specs.declared.archive.ArchiveFault.TheVariants as archive
 use Rattle.node_loop.specs.declared.end.ServeEnd.{ServeEnd}
 use Rattle.node_loop.specs.declared.end.ServeEnd.TheVariants as ends
-use Rattle.node_loop.specs.Archives.{Moment, KeptAt, moment}
+use Rattle.node_loop.specs.Archives.{Moment, Reach, KeptAt, moment}
 use Rattle.node_loop.specs.Journals.{OpensNewest, OpensSome}
 use Rattle.node_loop.specs.Keeping.{kept_of}
 use Rattle.node_loop.specs.Outs.{Outs, Tells, NoneFailed}
-use Rattle.node_loop.specs.Recovering.{recovered, recalled_deeds, with_past}
+use Rattle.node_loop.specs.Recovering.{earlier_with, recovered, recalled_deeds, with_past}
 use Rattle.node_loop.specs.ServedKept.{BreaksOff, earlier_kept, newest_kept}
 use Rattle.node_loop.specs.Serving.{Serving, so_far, Want, wants, Round}
 use Rattle.node_loop.specs.Told.{AreGroups, after_groups, told_from, newest_calls, sooner, deeds_from}
@@ -81,37 +83,61 @@ pub record DiskBreaks (me : ℕ) (head : List ℕ) (past : List Event) (d : Disk
 -- ---- the ends
 
 -- serving broke at a fault of the journal, where no call of the output or the link failed
-pub record BrokeAt (h : Header) (plan : LinkPlan) (tells : Tells) (base now : Outs) (end : ServeEnd) (events : List Event) (sooner news : List LinkAct) : Type 0 where
+pub record BrokeAt (h : Header) (plan : LinkPlan) (tells : Tells) (base now : Outs) (end : ServeEnd) (earlier events : List Event) (sooner news : List LinkAct) : Type 0 where
   pub mid : Outs
   pub begun : HasBegun (heading h) plan tells base mid
-  pub stops : BreaksOff tells mid now end events sooner news
+  pub stops : BreaksOff tells mid now end earlier events sooner news
 
 -- each end: as of any session, or the newest group couldn't be kept
-abbrev pub LifeEnds : Header → LinkPlan → Tells → Outs → Outs → ServeEnd → Serving → List LinkAct → List LinkAct → Want → Type 0
-LifeEnds h plan tells base now ends.DiskFault s sooner news rule =
-    NoneFailed base now × TookPart h plan tells base now s.events (news ++ sooner) × BrokeAt h plan tells base now ends.DiskFault s.events sooner news
-LifeEnds h plan tells base now (ends.JournalFull x) s sooner news rule =
-    NoneFailed base now × TookPart h plan tells base now s.events (news ++ sooner) × BrokeAt h plan tells base now (ends.JournalFull x) s.events sooner news
-LifeEnds h plan tells base now end s sooner news rule = SessionEnds h plan tells base now end s sooner news rule
+abbrev pub LifeEnds : Header → LinkPlan → Tells → Outs → Outs → ServeEnd → List Event → Serving → List LinkAct → List LinkAct → Want → Type 0
+LifeEnds h plan tells base now ends.DiskFault earlier s sooner news rule =
+    NoneFailed base now × TookPart h plan tells base now s.events (news ++ sooner) × BrokeAt h plan tells base now ends.DiskFault earlier s.events sooner news
+LifeEnds h plan tells base now (ends.JournalFull x) earlier s sooner news rule =
+    NoneFailed base now × TookPart h plan tells base now s.events (news ++ sooner) × BrokeAt h plan tells base now (ends.JournalFull x) earlier s.events sooner news
+LifeEnds h plan tells base now end earlier s sooner news rule = SessionEnds h plan tells base now end earlier s sooner news rule
 
 -- what is kept at each end: where the output failed, all events, or all before the newest group, of which nothing went out
-abbrev pub LifeKept : Moment → Type 0 → List Event → List Event → List Event → ServeEnd → Type 0
-LifeKept now none kept group older ends.TapeFault = now.stands kept ⊎ (none × now.stands older)
-LifeKept now none kept group older end = KeptAt now none kept group older end
+abbrev pub LifeKept : Moment → Reach → List Event → List Event → List Event → ServeEnd → Type 0
+LifeKept now far kept group older ends.TapeFault = now.stands kept ⊎ (far.none × now.stands older)
+LifeKept now far kept group older end = KeptAt now far kept group older end
+
+-- the output took the header and the text of these events
+abbrev pub HasRecord : Header → Tells → Outs → Outs → List Event → Type 0
+HasRecord h tells base now events = tells.tape ≡ true → now.taken ≡ base.taken ++ FrontOf (heading h) events
 
 -- nothing went to the link behind its start and these calls
 abbrev pub NothingMore : LinkPlan → Tells → Outs → Outs → List LinkAct → Type 0
 NothingMore plan tells base now sooner = tells.link ≡ true → (now.told ≡ sooner ++ Starts plan ∷ base.told) ⊎ (now.told ≡ base.told)
+
+-- the link wasn't started, and the output took the header at most
+pub record NotBegun (h : Header) (tells : Tells) (base now : Outs) : Type 0 where
+  pub taken : tells.tape ≡ true → TookFront base.taken now.taken (header_text (heading h))
+  pub told : tells.link ≡ true → now.told ≡ base.told
+
+-- nothing came of the newest group: the output took exactly the events before it, and nothing went to the link behind these calls; or there are no events
+-- before it, and the session wasn't begun
+abbrev pub NothingCame : Header → LinkPlan → Tells → Outs → Outs → List Event → List LinkAct → Type 0
+NothingCame h plan tells base now earlier sooner =
+    (HasRecord h tells base now earlier × (tells.link ≡ true → now.told ≡ sooner ++ Starts plan ∷ base.told)) ⊎ ((earlier ≡ []) × NotBegun h tells base now)
+
+-- how far the output and the link came with the newest group
+abbrev pub life_reach : Header → LinkPlan → Tells → Outs → Outs → List Event → List Event → List LinkAct → Reach
+life_reach h plan tells base now earlier events sooner = record {
+  whole = HasRecord h tells base now events;
+  older = NothingCame h plan tells base now earlier sooner;
+  none = NothingMore plan tells base now sooner;
+}
 
 -- There are groups of rounds of serving that began after the past events, each round what the rules say, after which the session ended so. The output
 -- took the past events too, in front of the others.
 pub record ServesLife (s : Session) (past : List Event) (w : Setting) (tells : Tells) (base : Outs) (now : Moment) (end : ServeEnd) : Type 0 where
   pub groups : List (List Round)
   pub are : AreGroups w past s.until s.limit (recovered w past) groups
-  pub so : LifeEnds s.header s.plan tells base now.outs end (with_past past (after_groups w past (recovered w past) groups))
+  pub so : LifeEnds s.header s.plan tells base now.outs end (earlier_with w past groups) (with_past past (after_groups w past (recovered w past) groups))
       (sooner w past (recovered w past) groups) (newest_calls w past (recovered w past) groups)
       (wants w past s.until s.limit (after_groups w past (recovered w past) groups))
-  pub kept : LifeKept now (NothingMore s.plan tells base now.outs (sooner w past (recovered w past) groups))
+  pub kept : LifeKept now
+      (life_reach s.header s.plan tells base now.outs (earlier_with w past groups) (so_far past (after_groups w past (recovered w past) groups)) (sooner w past (recovered w past) groups))
       (kept_of w past (after_groups w past (recovered w past) groups).events) (newest_kept w past (recovered w past) groups)
       (earlier_kept w past (recovered w past) groups) end
   pub true_of : IsTrueSession s.header w (so_far past (after_groups w past (recovered w past) groups)) (recalled_deeds w past)

@@ -23,7 +23,7 @@ use Rattle.node_loop.specs.Laws.{sent_as, all_frames_of, AreOpen, AreEarned, IsT
 use Rattle.node_loop.specs.Outs.{Outs, NoneFailed, TapeFailed, LinkFailed, FellShort, Tells, Agrees}
 use Rattle.node_loop.specs.Served.{MayBegin, Breaks}
 use Rattle.node_loop.specs.Serving.{Serving, Want, Begins, Finishes, Turns, Halts, Reminds, Asks, Round, begin, wants}
-use Rattle.node_loop.specs.Told.{AreGroups, after_groups, told_from, newest_calls, sooner, deeds_from}
+use Rattle.node_loop.specs.Told.{AreGroups, after_groups, before_newest, told_from, newest_calls, sooner, deeds_from}
 use Rattle.node_session.specs.declared.session.Session.{Session}
 use Rattle.node_session.specs.Opening.{HasBegun, HasFailed}
 
@@ -57,27 +57,29 @@ last_acts Halts acts = acts
 last_acts (Reminds i j) acts = acts
 last_acts Asks acts = Gives items.End ∷ acts
 
--- How far it came at a fault, where the calls of the newest group are `news`, and those before are `sooner`: the link wasn't started, or
--- serving broke, or all was served and the end mark wasn't written.
-pub data CameTo (h : Header) (plan : LinkPlan) (tells : Tells) (base now : Outs) (end : ServeEnd) (s : Serving) (sooner news : List LinkAct) (rule : Want) : Type 0 where
-  NotStarted : HasFailed (heading h) plan tells base now end → CameTo h plan tells base now end s sooner news rule
-  Broke : (mid : Outs) → HasBegun (heading h) plan tells base mid → Breaks tells mid now end s.events sooner news → CameTo h plan tells base now end s sooner news rule
+-- How far it came at a fault, where the events before the newest group's are `earlier`, the calls of that group are `news`, and those before are
+-- `sooner`: the link wasn't started, or serving broke, or all was served and the end mark wasn't written.
+pub data CameTo (h : Header) (plan : LinkPlan) (tells : Tells) (base now : Outs) (end : ServeEnd) (earlier : List Event) (s : Serving) (sooner news : List LinkAct)
+    (rule : Want) : Type 0 where
+  NotStarted : HasFailed (heading h) plan tells base now end → CameTo h plan tells base now end earlier s sooner news rule
+  Broke : (mid : Outs) → HasBegun (heading h) plan tells base mid → Breaks tells mid now end earlier s.events sooner news
+      → CameTo h plan tells base now end earlier s sooner news rule
   NotClosed : (mid whole : Outs) → HasBegun (heading h) plan tells base mid → Agrees tells mid whole s.events (last_acts rule (news ++ sooner)) → end ≡ ends.TapeFault
-      → (tells.tape ≡ true → TookFront whole.taken now.taken (0 ∷ [])) → now.told ≡ whole.told → CameTo h plan tells base now end s sooner news rule
+      → (tells.tape ≡ true → TookFront whole.taken now.taken (0 ∷ [])) → now.told ≡ whole.told → CameTo h plan tells base now end earlier s sooner news rule
 
 -- each end: the rule that applied, or the fault that came, which is that of the first call that failed or was without memory
-abbrev pub SessionEnds : Header → LinkPlan → Tells → Outs → Outs → ServeEnd → Serving → List LinkAct → List LinkAct → Want → Type 0
-SessionEnds h plan tells base now ends.Done s sooner news rule = (rule ≡ Finishes) × TookAll h plan tells base now s.events (news ++ sooner)
-SessionEnds h plan tells base now ends.Limit s sooner news rule = (rule ≡ Halts) × TookAll h plan tells base now s.events (news ++ sooner)
-SessionEnds h plan tells base now ends.End s sooner news rule = (rule ≡ Asks) × TookAll h plan tells base now s.events (Gives items.End ∷ (news ++ sooner))
-SessionEnds h plan tells base now ends.LinkFault s sooner news rule =
-    LinkFailed base now × TookPart h plan tells base now s.events (news ++ sooner) × CameTo h plan tells base now ends.LinkFault s sooner news rule
-SessionEnds h plan tells base now ends.TapeFault s sooner news rule =
-    TapeFailed base now × TookPart h plan tells base now s.events (last_acts rule (news ++ sooner)) × CameTo h plan tells base now ends.TapeFault s sooner news rule
-SessionEnds h plan tells base now ends.Mem s sooner news rule =
-    FellShort base now × TookPart h plan tells base now s.events (news ++ sooner) × CameTo h plan tells base now ends.Mem s sooner news rule
-SessionEnds h plan tells base now ends.DiskFault s sooner news rule = ⊥
-SessionEnds h plan tells base now (ends.JournalFull x) s sooner news rule = ⊥
+abbrev pub SessionEnds : Header → LinkPlan → Tells → Outs → Outs → ServeEnd → List Event → Serving → List LinkAct → List LinkAct → Want → Type 0
+SessionEnds h plan tells base now ends.Done earlier s sooner news rule = (rule ≡ Finishes) × TookAll h plan tells base now s.events (news ++ sooner)
+SessionEnds h plan tells base now ends.Limit earlier s sooner news rule = (rule ≡ Halts) × TookAll h plan tells base now s.events (news ++ sooner)
+SessionEnds h plan tells base now ends.End earlier s sooner news rule = (rule ≡ Asks) × TookAll h plan tells base now s.events (Gives items.End ∷ (news ++ sooner))
+SessionEnds h plan tells base now ends.LinkFault earlier s sooner news rule =
+    LinkFailed base now × TookPart h plan tells base now s.events (news ++ sooner) × CameTo h plan tells base now ends.LinkFault earlier s sooner news rule
+SessionEnds h plan tells base now ends.TapeFault earlier s sooner news rule =
+    TapeFailed base now × TookPart h plan tells base now s.events (last_acts rule (news ++ sooner)) × CameTo h plan tells base now ends.TapeFault earlier s sooner news rule
+SessionEnds h plan tells base now ends.Mem earlier s sooner news rule =
+    FellShort base now × TookPart h plan tells base now s.events (news ++ sooner) × CameTo h plan tells base now ends.Mem earlier s sooner news rule
+SessionEnds h plan tells base now ends.DiskFault earlier s sooner news rule = ⊥
+SessionEnds h plan tells base now (ends.JournalFull x) earlier s sooner news rule = ⊥
 
 -- What is true of the events and the calls of a session, in its world w, where the link's calls are these deeds, and the earlier ones are those
 -- of lives before, of which a journal kept the events: a file of these events is one; the frames that went out for the first time, with the
@@ -97,8 +99,8 @@ pub record IsTrueSession (h : Header) (w : Setting) (events : List Event) (earli
 pub record ServesSession (s : Session) (first : List LinkItem) (w : Setting) (tells : Tells) (base now : Outs) (end : ServeEnd) : Type 0 where
   pub groups : List (List Round)
   pub are : AreGroups w [] s.until s.limit (begin first) groups
-  pub so : SessionEnds s.header s.plan tells base now end (after_groups w [] (begin first) groups) (sooner w [] (begin first) groups) (newest_calls w [] (begin first) groups)
-      (wants w [] s.until s.limit (after_groups w [] (begin first) groups))
+  pub so : SessionEnds s.header s.plan tells base now end (before_newest w [] (begin first) groups).events (after_groups w [] (begin first) groups)
+      (sooner w [] (begin first) groups) (newest_calls w [] (begin first) groups) (wants w [] s.until s.limit (after_groups w [] (begin first) groups))
   pub true_of : IsTrueSession s.header w (after_groups w [] (begin first) groups).events [] (deeds_from w [] (begin first) [] groups) (told_from w [] (begin first) groups)
   pub tape_later : base.tape_faults ≤ now.tape_faults
   pub link_later : base.link_faults.failed ≤ now.link_faults.failed

@@ -16,7 +16,7 @@ use Rattle.event_journal.specs.declared.fault.JournalFault.{JournalFault}
 use Rattle.event_journal.specs.declared.fault.JournalFault.TheVariants as journal_faults
 use Rattle.node_loop.specs.declared.end.ServeEnd.{ServeEnd}
 use Rattle.node_loop.specs.declared.end.ServeEnd.TheVariants as ends
-use Rattle.node_loop.specs.Archives.{moment}
+use Rattle.node_loop.specs.Archives.{Reach, moment}
 use Rattle.node_loop.specs.Deeds.{Came}
 use Rattle.node_loop.specs.Outs.{Outs, Tells}
 use Rattle.node_loop.specs.Recovering.{recovered, recalled_deeds}
@@ -33,27 +33,29 @@ use Rattle.ritas.proofs.Served.{low, no_four, no_two, tape_counts, link_counts, 
 
 -- ---- the counts of the output and the link
 
-life_tape : (h : Header) (plan : LinkPlan) (tells : Tells) (base now : Outs) (end : ServeEnd) (s : Serving) (sooner news : List LinkAct) (rule : Want) → LifeEnds h plan tells base now end s sooner news rule
+life_tape : (h : Header) (plan : LinkPlan) (tells : Tells) (base now : Outs) (end : ServeEnd) (earlier : List Event) (s : Serving) (sooner news : List LinkAct) (rule : Want)
+    → LifeEnds h plan tells base now end earlier s sooner news rule
     → CountsIf base.tape_faults now.tape_faults (end_status end ≡ 5)
-life_tape h plan tells base now ends.Done s sooner news rule so = tape_counts h plan tells base now ends.Done s sooner news rule so
-life_tape h plan tells base now ends.Limit s sooner news rule so = tape_counts h plan tells base now ends.Limit s sooner news rule so
-life_tape h plan tells base now ends.End s sooner news rule so = tape_counts h plan tells base now ends.End s sooner news rule so
-life_tape h plan tells base now ends.LinkFault s sooner news rule so = tape_counts h plan tells base now ends.LinkFault s sooner news rule so
-life_tape h plan tells base now ends.TapeFault s sooner news rule so = tape_counts h plan tells base now ends.TapeFault s sooner news rule so
-life_tape h plan tells base now ends.Mem s sooner news rule so = tape_counts h plan tells base now ends.Mem s sooner news rule so
-life_tape h plan tells base now ends.DiskFault s sooner news rule so = none_failed _ _ (λ e. omega (arith, e)) so.0.0
-life_tape h plan tells base now (ends.JournalFull x) s sooner news rule so = none_failed _ _ (λ e. omega (arith, e)) so.0.0
+life_tape h plan tells base now ends.Done earlier s sooner news rule so = tape_counts h plan tells base now ends.Done earlier s sooner news rule so
+life_tape h plan tells base now ends.Limit earlier s sooner news rule so = tape_counts h plan tells base now ends.Limit earlier s sooner news rule so
+life_tape h plan tells base now ends.End earlier s sooner news rule so = tape_counts h plan tells base now ends.End earlier s sooner news rule so
+life_tape h plan tells base now ends.LinkFault earlier s sooner news rule so = tape_counts h plan tells base now ends.LinkFault earlier s sooner news rule so
+life_tape h plan tells base now ends.TapeFault earlier s sooner news rule so = tape_counts h plan tells base now ends.TapeFault earlier s sooner news rule so
+life_tape h plan tells base now ends.Mem earlier s sooner news rule so = tape_counts h plan tells base now ends.Mem earlier s sooner news rule so
+life_tape h plan tells base now ends.DiskFault earlier s sooner news rule so = none_failed _ _ (λ e. omega (arith, e)) so.0.0
+life_tape h plan tells base now (ends.JournalFull x) earlier s sooner news rule so = none_failed _ _ (λ e. omega (arith, e)) so.0.0
 
-life_link : (h : Header) (plan : LinkPlan) (tells : Tells) (base now : Outs) (end : ServeEnd) (s : Serving) (sooner news : List LinkAct) (rule : Want) → LifeEnds h plan tells base now end s sooner news rule
+life_link : (h : Header) (plan : LinkPlan) (tells : Tells) (base now : Outs) (end : ServeEnd) (earlier : List Event) (s : Serving) (sooner news : List LinkAct) (rule : Want)
+    → LifeEnds h plan tells base now end earlier s sooner news rule
     → LinkCounts base.link_faults now.link_faults (end_status end)
-life_link h plan tells base now ends.Done s sooner news rule so = link_counts h plan tells base now ends.Done s sooner news rule so
-life_link h plan tells base now ends.Limit s sooner news rule so = link_counts h plan tells base now ends.Limit s sooner news rule so
-life_link h plan tells base now ends.End s sooner news rule so = link_counts h plan tells base now ends.End s sooner news rule so
-life_link h plan tells base now ends.LinkFault s sooner news rule so = link_counts h plan tells base now ends.LinkFault s sooner news rule so
-life_link h plan tells base now ends.TapeFault s sooner news rule so = link_counts h plan tells base now ends.TapeFault s sooner news rule so
-life_link h plan tells base now ends.Mem s sooner news rule so = link_counts h plan tells base now ends.Mem s sooner news rule so
-life_link h plan tells base now ends.DiskFault s sooner news rule so = link_stood _ _ 9 (λ e. omega (arith, e)) so.0.1
-life_link h plan tells base now (ends.JournalFull x) s sooner news rule so = link_stood _ _ 7 (λ e. omega (arith, e)) so.0.1
+life_link h plan tells base now ends.Done earlier s sooner news rule so = link_counts h plan tells base now ends.Done earlier s sooner news rule so
+life_link h plan tells base now ends.Limit earlier s sooner news rule so = link_counts h plan tells base now ends.Limit earlier s sooner news rule so
+life_link h plan tells base now ends.End earlier s sooner news rule so = link_counts h plan tells base now ends.End earlier s sooner news rule so
+life_link h plan tells base now ends.LinkFault earlier s sooner news rule so = link_counts h plan tells base now ends.LinkFault earlier s sooner news rule so
+life_link h plan tells base now ends.TapeFault earlier s sooner news rule so = link_counts h plan tells base now ends.TapeFault earlier s sooner news rule so
+life_link h plan tells base now ends.Mem earlier s sooner news rule so = link_counts h plan tells base now ends.Mem earlier s sooner news rule so
+life_link h plan tells base now ends.DiskFault earlier s sooner news rule so = link_stood _ _ 9 (λ e. omega (arith, e)) so.0.1
+life_link h plan tells base now (ends.JournalFull x) earlier s sooner news rule so = link_stood _ _ 7 (λ e. omega (arith, e)) so.0.1
 
 node_runs : {K : Type 0} (faults : K → ℕ) (old new : K) (config : NodeConfig) (tells : Tells) (base now : Outs) (d : DiskSeen) (end : ServeEnd)
     → base.tape_faults ≡ faults old → now.tape_faults ≡ faults new → ServesNode config tells base now d end
@@ -64,30 +66,30 @@ node_runs faults old new config tells base now d end before later serves =
       ends = record {
         listed = low end;
         counts =
-            let counts = life_tape session.header session.plan tells base now end _ _ _ _ serves.life.so in
+            let counts = life_tape session.header session.plan tells base now end _ _ _ _ _ serves.life.so in
             subst (λ (n : ℕ). CountsIf (faults old) n (end_status end ≡ 5)) later (subst (λ (n : ℕ). CountsIf n now.tape_faults (end_status end ≡ 5)) before counts);
         unread = λ e. absurd (no_four end e);
       };
-      link_counts = life_link session.header session.plan tells base now end _ _ _ _ serves.life.so;
+      link_counts = life_link session.header session.plan tells base now end _ _ _ _ _ serves.life.so;
       words_are_right = no_two end;
     }
 
 -- ---- the counts of the disk
 
-kept_counts : (me : ℕ) (head : List ℕ) (past : List Event) (outs : Outs) (d : DiskSeen) (none : Type 0) (kept group older : List Event) (end : ServeEnd)
-    → LifeKept (moment outs (DiskKeeps me head past d) (DiskBreaks me head past d)) none kept group older end → HasCause d.few d.many (end_status end ≡ 9)
-kept_counts me head past outs d none kept group older ends.Done held = record { later = held.later; cause = λ e. absurd (omega (arith, e)) }
-kept_counts me head past outs d none kept group older ends.Limit held = record { later = held.later; cause = λ e. absurd (omega (arith, e)) }
-kept_counts me head past outs d none kept group older ends.End held = record { later = held.later; cause = λ e. absurd (omega (arith, e)) }
-kept_counts me head past outs d none kept group older ends.LinkFault (inl held) = record { later = held.later; cause = λ e. absurd (omega (arith, e)) }
-kept_counts me head past outs d none kept group older ends.LinkFault (inr held) = record { later = held.1.later; cause = λ e. absurd (omega (arith, e)) }
-kept_counts me head past outs d none kept group older ends.TapeFault (inl held) = record { later = held.later; cause = λ e. absurd (omega (arith, e)) }
-kept_counts me head past outs d none kept group older ends.TapeFault (inr held) = record { later = held.1.later; cause = λ e. absurd (omega (arith, e)) }
-kept_counts me head past outs d none kept group older ends.Mem (inl held) = record { later = held.later; cause = λ e. absurd (omega (arith, e)) }
-kept_counts me head past outs d none kept group older ends.Mem (inr (sent, inl held)) = record { later = held.later; cause = λ e. absurd (omega (arith, e)) }
-kept_counts me head past outs d none kept group older ends.Mem (inr (sent, inr held)) = record { later = held.later; cause = λ e. absurd (omega (arith, e)) }
-kept_counts me head past outs d none kept group older ends.DiskFault held = record { later = held.later; cause = λ e. held.disk refl }
-kept_counts me head past outs d none kept group older (ends.JournalFull x) held = record { later = held.later; cause = λ e. absurd (omega (arith, e)) }
+kept_counts : (me : ℕ) (head : List ℕ) (past : List Event) (outs : Outs) (d : DiskSeen) (far : Reach) (kept group older : List Event) (end : ServeEnd)
+    → LifeKept (moment outs (DiskKeeps me head past d) (DiskBreaks me head past d)) far kept group older end → HasCause d.few d.many (end_status end ≡ 9)
+kept_counts me head past outs d far kept group older ends.Done held = record { later = held.later; cause = λ e. absurd (omega (arith, e)) }
+kept_counts me head past outs d far kept group older ends.Limit held = record { later = held.later; cause = λ e. absurd (omega (arith, e)) }
+kept_counts me head past outs d far kept group older ends.End held = record { later = held.later; cause = λ e. absurd (omega (arith, e)) }
+kept_counts me head past outs d far kept group older ends.LinkFault (inl held) = record { later = held.1.later; cause = λ e. absurd (omega (arith, e)) }
+kept_counts me head past outs d far kept group older ends.LinkFault (inr held) = record { later = held.1.later; cause = λ e. absurd (omega (arith, e)) }
+kept_counts me head past outs d far kept group older ends.TapeFault (inl held) = record { later = held.later; cause = λ e. absurd (omega (arith, e)) }
+kept_counts me head past outs d far kept group older ends.TapeFault (inr held) = record { later = held.1.later; cause = λ e. absurd (omega (arith, e)) }
+kept_counts me head past outs d far kept group older ends.Mem (inl (written, inl held)) = record { later = held.later; cause = λ e. absurd (omega (arith, e)) }
+kept_counts me head past outs d far kept group older ends.Mem (inl (written, inr held)) = record { later = held.1.later; cause = λ e. absurd (omega (arith, e)) }
+kept_counts me head past outs d far kept group older ends.Mem (inr held) = record { later = held.1.later; cause = λ e. absurd (omega (arith, e)) }
+kept_counts me head past outs d far kept group older ends.DiskFault held = record { later = held.later; cause = λ e. held.disk refl }
+kept_counts me head past outs d far kept group older (ends.JournalFull x) held = record { later = held.later; cause = λ e. absurd (omega (arith, e)) }
 
 pub no_disk : (session : Session) (first : List LinkItem) (w : Setting) (tells : Tells) (base now : Outs) (end : ServeEnd) → ServesSession session first w tells base now end → end_status end ≢ 9
 no_disk session first w tells base now ends.Done serves e = omega (arith, e)

@@ -52,27 +52,29 @@ low ends.Mem = omega arith
 low ends.DiskFault = omega arith
 low (ends.JournalFull x) = omega arith
 
-pub tape_counts : (h : Header) (plan : LinkPlan) (tells : Tells) (base now : Outs) (end : ServeEnd) (s : Serving) (sooner news : List LinkAct) (rule : Want) → SessionEnds h plan tells base now end s sooner news rule
+pub tape_counts : (h : Header) (plan : LinkPlan) (tells : Tells) (base now : Outs) (end : ServeEnd) (earlier : List Event) (s : Serving) (sooner news : List LinkAct) (rule : Want)
+    → SessionEnds h plan tells base now end earlier s sooner news rule
     → CountsIf base.tape_faults now.tape_faults (end_status end ≡ 5)
-tape_counts h plan tells base now ends.Done s sooner news rule so = none_failed _ _ (λ e. omega (arith, e)) so.1.none_failed.0
-tape_counts h plan tells base now ends.Limit s sooner news rule so = none_failed _ _ (λ e. omega (arith, e)) so.1.none_failed.0
-tape_counts h plan tells base now ends.End s sooner news rule so = none_failed _ _ (λ e. omega (arith, e)) so.1.none_failed.0
-tape_counts h plan tells base now ends.LinkFault s sooner news rule so = none_failed _ _ (λ e. omega (arith, e)) so.0.0
-tape_counts h plan tells base now ends.TapeFault s sooner news rule so = one_failed _ _ refl so.0.0
-tape_counts h plan tells base now ends.Mem s sooner news rule so = none_failed _ _ (λ e. omega (arith, e)) so.0.0
-tape_counts h plan tells base now ends.DiskFault s sooner news rule so = absurd so
-tape_counts h plan tells base now (ends.JournalFull x) s sooner news rule so = absurd so
+tape_counts h plan tells base now ends.Done earlier s sooner news rule so = none_failed _ _ (λ e. omega (arith, e)) so.1.none_failed.0
+tape_counts h plan tells base now ends.Limit earlier s sooner news rule so = none_failed _ _ (λ e. omega (arith, e)) so.1.none_failed.0
+tape_counts h plan tells base now ends.End earlier s sooner news rule so = none_failed _ _ (λ e. omega (arith, e)) so.1.none_failed.0
+tape_counts h plan tells base now ends.LinkFault earlier s sooner news rule so = none_failed _ _ (λ e. omega (arith, e)) so.0.0
+tape_counts h plan tells base now ends.TapeFault earlier s sooner news rule so = one_failed _ _ refl so.0.0
+tape_counts h plan tells base now ends.Mem earlier s sooner news rule so = none_failed _ _ (λ e. omega (arith, e)) so.0.0
+tape_counts h plan tells base now ends.DiskFault earlier s sooner news rule so = absurd so
+tape_counts h plan tells base now (ends.JournalFull x) earlier s sooner news rule so = absurd so
 
-pub link_counts : (h : Header) (plan : LinkPlan) (tells : Tells) (base now : Outs) (end : ServeEnd) (s : Serving) (sooner news : List LinkAct) (rule : Want) → SessionEnds h plan tells base now end s sooner news rule
+pub link_counts : (h : Header) (plan : LinkPlan) (tells : Tells) (base now : Outs) (end : ServeEnd) (earlier : List Event) (s : Serving) (sooner news : List LinkAct) (rule : Want)
+    → SessionEnds h plan tells base now end earlier s sooner news rule
     → LinkCounts base.link_faults now.link_faults (end_status end)
-link_counts h plan tells base now ends.Done s sooner news rule so = link_stood _ _ 0 (λ e. omega (arith, e)) so.1.none_failed.1
-link_counts h plan tells base now ends.Limit s sooner news rule so = link_stood _ _ 0 (λ e. omega (arith, e)) so.1.none_failed.1
-link_counts h plan tells base now ends.End s sooner news rule so = link_stood _ _ 0 (λ e. omega (arith, e)) so.1.none_failed.1
-link_counts h plan tells base now ends.LinkFault s sooner news rule so = link_failed _ _ 6 refl so.0.1
-link_counts h plan tells base now ends.TapeFault s sooner news rule so = link_stood _ _ 5 (λ e. omega (arith, e)) so.0.1
-link_counts h plan tells base now ends.Mem s sooner news rule so = link_short _ _ 8 refl so.0.1
-link_counts h plan tells base now ends.DiskFault s sooner news rule so = absurd so
-link_counts h plan tells base now (ends.JournalFull x) s sooner news rule so = absurd so
+link_counts h plan tells base now ends.Done earlier s sooner news rule so = link_stood _ _ 0 (λ e. omega (arith, e)) so.1.none_failed.1
+link_counts h plan tells base now ends.Limit earlier s sooner news rule so = link_stood _ _ 0 (λ e. omega (arith, e)) so.1.none_failed.1
+link_counts h plan tells base now ends.End earlier s sooner news rule so = link_stood _ _ 0 (λ e. omega (arith, e)) so.1.none_failed.1
+link_counts h plan tells base now ends.LinkFault earlier s sooner news rule so = link_failed _ _ 6 refl so.0.1
+link_counts h plan tells base now ends.TapeFault earlier s sooner news rule so = link_stood _ _ 5 (λ e. omega (arith, e)) so.0.1
+link_counts h plan tells base now ends.Mem earlier s sooner news rule so = link_short _ _ 8 refl so.0.1
+link_counts h plan tells base now ends.DiskFault earlier s sooner news rule so = absurd so
+link_counts h plan tells base now (ends.JournalFull x) earlier s sooner news rule so = absurd so
 
 -- a session that was served gives these counts
 pub session_runs : {K : Type 0} (faults : K → ℕ) (old new : K) (session : Session) (first : List LinkItem) (w : Setting) (tells : Tells) (base now : Outs) (end : ServeEnd)
@@ -82,11 +84,11 @@ session_runs faults old new session first w tells base now end before later serv
   ends = record {
     listed = low end;
     counts =
-        let counts = tape_counts session.header session.plan tells base now end _ _ _ _ serves.so in
+        let counts = tape_counts session.header session.plan tells base now end _ _ _ _ _ serves.so in
         subst (λ (n : ℕ). CountsIf (faults old) n (end_status end ≡ 5)) later (subst (λ (n : ℕ). CountsIf n now.tape_faults (end_status end ≡ 5)) before counts);
     unread = λ e. absurd (no_four end e);
   };
-  link_counts = link_counts session.header session.plan tells base now end _ _ _ _ serves.so;
+  link_counts = link_counts session.header session.plan tells base now end _ _ _ _ _ serves.so;
   words_are_right = no_two end;
 }
 

@@ -1,56 +1,21 @@
-use Rattle.std.proofs.Common.{◌≡◌, List, length, Some, Ok, refl, sym, ap, subst, arith}
-use Rattle.std.specs.List.{slice_get}
-use Rattle.std.proofs.lemmas.Option.{slice_get_read, slice_get_within}
+use Rattle.std.proofs.Common.{List, Ok, sym, subst}
 use Rattle.outside.specs.LinkCalls.{each_act}
 use Rattle.outside.specs.LinkCallsLaws.{did_none}
 use Rattle.link_resume.specs.declared.kept.Kept.{Kept}
 use Rattle.node_loop.specs.Outs.{LinkTook}
-use Rattle.node_loop.specs.declared.peers.Keeper.{Keeper}
 use Rattle.node_loop.specs.PeersStanding.{kept_by}
 use Rattle.node_loop.proofs.deliver.send_again.Goals as goal
 
-pub returns-in_default : goal.returns-in_default
-returns-in_default g c = record {
+pub returns-in-Some : goal.returns-in-Some
+returns-in-Some g c = record {
   sends = λ w es numbers ws p stands fits.
-      let away = c.in_default.ensures.place w es numbers stands.here in
-      subst (λ (kept : List Kept). LinkTook g.L.Link (each_act (kept_by c.args.at c.args.peer) kept) c.args.link.now c.args.link.now (Ok tt))
-      (sym (fits.1 away)) (did_none _ _ _);
-}
-
-pub returns-in_default-get : goal.returns-in_default-get
-returns-in_default-get g c = record {
-  sends = λ w es numbers ws p stands fits.
-      let number = (c.in-Some.ensures.place w es numbers stands.here).1 in
-      let within = slice_get_within numbers c.in-Some.place c.args.at number in
-      let past = c.in_default-get.ensures.lookup.3 in
-      let many = stands.many in
-      let same : length c.deref.result.now ≡ length c.args.house.now.keepers.items = ap length c.deref.ensures.value in
-      absurd (omega (arith, within, past, many, same));
-}
-
-pub returns-then-from-peers : goal.returns-then-from-peers
-returns-then-from-peers g c = record {
-  sends = λ w es numbers ws p stands fits.
-      let number = (c.in-Some.ensures.place w es numbers stands.here).1 in
-      let look = c.in-Some-get.ensures.lookup in
-      let keepers = c.deref.result.now in
-      let keeper = c.in-Some-get.keeper.now in
-      let there : slice_get keepers c.in-Some.place ≡ Some keeper = slice_get_read keepers (length keepers) c.in-Some.place keeper refl look.3.0 look.1 in
-      let is = stands.keepers c.in-Some.place c.args.at keeper number (subst (λ (l : List Keeper). slice_get l c.in-Some.place ≡ Some keeper) c.deref.ensures.value there) in
-      let below = fits.0 in
-      let many = is.kept.many in
-      absurd (omega (arith, below, many, c.if-from-peers.true, c.peers.ensures, c.from.ensures));
-}
-
-pub returns : goal.returns
-returns g c = record {
-  sends = λ w es numbers ws p stands fits.
-      let number = (c.in-Some.ensures.place w es numbers stands.here).1 in
-      let look = c.in-Some-get.ensures.lookup in
-      let keepers = c.deref.result.now in
-      let keeper = c.in-Some-get.keeper.now in
-      let there : slice_get keepers c.in-Some.place ≡ Some keeper = slice_get_read keepers (length keepers) c.in-Some.place keeper refl look.3.0 look.1 in
-      let is = stands.keepers c.in-Some.place c.args.at keeper number (subst (λ (l : List Keeper). slice_get l c.in-Some.place ≡ Some keeper) c.deref.ensures.value there) in
       subst (λ (kept : List Kept). LinkTook g.L.Link (each_act (kept_by c.args.at c.args.peer) kept) c.args.link.now c.send_kept.new.link c.send_kept.result)
-      (is.kept.each c.args.peer fits.0) c.send_kept.ensures.sends;
+      (c.in-Some.ensures.kept w es numbers ws p stands fits) c.send_kept.ensures.sends;
+}
+
+pub returns-in-None : goal.returns-in-None
+returns-in-None g c = record {
+  sends = λ w es numbers ws p stands fits.
+      subst (λ (kept : List Kept). LinkTook g.L.Link (each_act (kept_by c.args.at c.args.peer) kept) c.args.link.now c.args.link.now (Ok tt))
+      (sym (c.in-None.ensures.kept w es numbers ws p stands fits)) (did_none _ _ _);
 }

@@ -16,7 +16,7 @@ returns-in_err-write-clause-goes g c = λ o left ready.
     let fault = err_from_is_err_and c.from_residual.result c.from_residual.ensures.1 in
     rw (fault.1 ∙ ap (λ (x : Fault). Err x) fault.2)
     (λ end is. tape_fails _ o.world o.past o.numbers _ o.base _ pace.taken pace.until pace.limit o.start left _ _ ready.many ready.within run ready.over _ c.in_err-write.field-0.0 end
-    c.in_err-write.ensures.own run.agrees.told
+    c.in_err-write.ensures.own
     (c.in_err-write.ensures.steps _ o.base _ _ (events_from o.world o.past s run.newest) s.events (sooner o.world o.past o.start groups) (newest_calls o.world o.past o.start groups) refl
     (c.taken-text.ensures ∙ run.under.holds.text) run.agrees) run.kept is)
 
