@@ -37,8 +37,8 @@ use std::sync::Wait;
 ///
 /// It ends as `serve` does, and with `DiskFault` where the disk failed, or with `JournalFull` where the journal would become too long, with its
 /// length then, up to 2^64 - 1: of the events that weren't appended nothing goes out. At these ends, as at a fault of the tape or the link, the
-/// replica stands where all events leave it. Where the link fails, the tape and the journal have all events, each those that it takes, unless the link was
-/// asked for an item that was to join a group: then both have exactly those before the group, and nothing of it went out.
+/// replica stands where all events leave it. Where the link fails, the tape has all events, and the journal those of them that it keeps, unless the
+/// link was asked for an item that was to join a group: then both have exactly those before the group, and nothing of it went out.
 ///
 /// The vector has one replica, as it was made, with the journal's number.
 pub fn serve_kept<

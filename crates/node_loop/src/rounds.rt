@@ -55,9 +55,9 @@ pub(crate) enum Next {
 ///
 /// It ends with `LinkFault` or `TapeFault` at the first call that fails, and with `Mem` where memory runs out, be it at a call of the link or
 /// of a replica, or for what is kept: no further call of the link or the tape is made then. Unless memory ran out, the replicas then
-/// stand where all events leave them, also those that the tape didn't take. Where the link fails, the tape took all events, unless it was asked for an
-/// item that was to join a group: then the tape took exactly the events before the group, and nothing of it went out. So it is where memory runs out.
-/// It waits nowhere but in the link's calls; nothing says that turns ever end.
+/// stand where all events leave them, also those that the tape didn't take. Where the link fails, the tape took all events, unless the link was asked
+/// for an item that was to join a group: then the tape took exactly the events before the group, and nothing of it went out. So it is where memory
+/// runs out. It waits nowhere but in the link's calls; nothing says that turns ever end.
 ///
 /// What the contract says holds where the replicas are of one world (`AreHere`): they are its correct ones, all of them, each once and
 /// in any order, as they stand after the events of that world before serving began, in which none is stopped, and its root service is
