@@ -1,20 +1,20 @@
 -- Which broadcasts are dropped, by what the service shows, and that the others stay.
-use Rattle.std.proofs.Common.{◌≡◌, ℕ, ◌+◌, ◌<◌, ◌≤◌, Bool, true, false, cond, ◌&&◌, Option, Some, None, List, [], ◌∷◌, ◌⊎◌, inl, inr, refl, sym, ◌∙◌, ap}
+use Rattle.std.proofs.Common.{◌≡◌, ℕ, ◌+◌, ◌<◌, Bool, true, false, cond, ◌&&◌, Option, Some, None, List, [], ◌∷◌, inl, inr, refl, sym, ◌∙◌, ap}
 use Rattle.std.specs.FinMap.{get}
-use Rattle.std.proofs.Math.Dec.{eqb, leb, ltb}
-use Rattle.std.proofs.lemmas.Bool.{both_ways, ltb-true, lt-ltb}
+use Rattle.std.proofs.Math.Dec.{eqb, ltb}
+use Rattle.std.proofs.lemmas.Bool.{both_ways, ltb-true}
 use Rattle.ritas_base.specs.declared.slot.Slot.{Slot}
 use Rattle.ritas_base.specs.Slots.{within}
 use Rattle.ritas_base.specs.Messages.{Place}
 use Rattle.ritas_base.specs.Tags.{Tags}
 use Rattle.ritas_base.specs.History.{Call}
-use Rattle.layer_api.specs.Service.{ServiceRules, Seat, WordLaws, AreProper, is_past}
+use Rattle.layer_api.specs.Service.{Seat, WordLaws, AreProper, is_past}
 use Rattle.layer_api.specs.ServiceCalls.{ServiceShown, Shows, ShowsBetween}
 use Rattle.layer_api.specs.Windows.{is_behind}
 use Rattle.layer_api.specs.Words.{Word}
 use Rattle.instance_tree.specs.SlotMaps.{SlotMap}
 use Rattle.ritas_core.specs.Rules.{Rules, CastRules, seat_of}
-use Rattle.ritas_core.specs.Drops.{is_dropped, mark_shown, is_past_shown, is_dropped_shown, DropsPast}
+use Rattle.ritas_core.specs.Drops.{is_dropped, mark_shown, is_dropped_shown, DropsPast}
 use Rattle.ritas_core.specs.Casts.{CastsStand}
 use Rattle.ritas_core.proofs.TestLaws.{and_false}
 use Rattle.ritas_core.proofs.Lookup.{was_not_past}

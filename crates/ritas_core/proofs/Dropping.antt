@@ -1,11 +1,11 @@
 -- What the drops of a tree take: the rounds that are past, and each origin's commands that are.
-use Rattle.std.proofs.Common.{◌≡◌, ℕ, ◌+◌, ◌-◌, ◌<◌, Bool, true, false, cond, not, ◌&&◌, ◌||◌, Option, None, refl, sym, ◌∙◌, ap, subst, arith}
+use Rattle.std.proofs.Common.{◌≡◌, ℕ, ◌+◌, ◌-◌, ◌<◌, Bool, true, false, cond, not, ◌&&◌, ◌||◌, Option, None, refl, sym, ◌∙◌, ap, arith}
 use Rattle.std.proofs.Math.Bool.{or-false}
 use Rattle.std.proofs.Math.Dec.{eqb, leb, ltb}
 use Rattle.std.proofs.lemmas.Bool.{leb-true, leb-false, le-leb, lt-leb, lt-ltb, le-ltb, ltb-true, ltb-false, eqb-true, eqb-false, eq-eqb}
 use Rattle.std.specs.FinMap.{get, get-retain_keys}
 use Rattle.ritas_base.specs.declared.slot.Slot.{Slot}
-use Rattle.ritas_base.specs.SlotOrder.{slot_cmp, exact_slots}
+use Rattle.ritas_base.specs.SlotOrder.{exact_slots}
 use Rattle.ritas_base.specs.Slots.{within}
 use Rattle.layer_api.specs.ServiceCalls.{ServiceShown}
 use Rattle.layer_api.specs.Windows.{is_behind}

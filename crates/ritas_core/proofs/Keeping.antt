@@ -1,24 +1,23 @@
 -- What slots delivered is kept by itself in root services 1 and 2, and which broadcasts are kept.
-use Rattle.std.proofs.Common.{◌≡◌, ℕ, ◌<◌, Bool, true, false, not, cond, ◌&&◌, Option, Some, None, List, [], ◌∷◌, refl, sym, ◌∙◌, ap, subst}
+use Rattle.std.proofs.Common.{◌≡◌, ℕ, Bool, true, false, not, cond, ◌&&◌, Option, Some, None, List, [], ◌∷◌, refl, sym, ◌∙◌, ap, subst}
 use Rattle.std.proofs.Math.Dec.{leb, ltb}
 use Rattle.std.proofs.lemmas.Bool.{lt-ltb}
 use Rattle.std.specs.Option.{is_some}
 use Rattle.std.specs.BTreeMap as map
 use Rattle.ritas_base.specs.declared.slot.Slot.{Slot}
-use Rattle.ritas_base.specs.declared.item.Item.{Item}
 use Rattle.ritas_base.specs.declared.item.Say.{Say}
 use Rattle.ritas_base.specs.SlotOrder.{slot_cmp, is_slot, same_slot}
 use Rattle.ritas_base.specs.Slots.{slot_fault, within}
 use Rattle.ritas_base.specs.History.{Call, Start, Take}
 use Rattle.layer_api.specs.OneValue.{ValueLaws}
 use Rattle.layer_api.specs.Service.{AreProper, AreGoodSays, is_past}
-use Rattle.layer_api.specs.Words.{Word, Ask, Hear}
+use Rattle.layer_api.specs.Words.{Ask, Hear}
 use Rattle.ritas_core.specs.Rules.{Rules, CastRules, place_at, out_at_slot, seat_of}
 use Rattle.ritas_core.specs.Drops.{is_dropped}
 use Rattle.ritas_core.specs.Casts.{OutputsStand, called, started_all, is_called, newly_there, delivered_by}
 use Rattle.ritas_core.specs.Parts.{Parts, Entry, Took, Given, parts, taken_at, heard_at, item_delivers}
-use Rattle.ritas_core.specs.PartsLaws.{newly_before, newly_after}
-use Rattle.ritas_core.specs.Checks.{IsTakable, IsHistory}
+use Rattle.ritas_core.specs.PartsLaws.{newly_after}
+use Rattle.ritas_core.specs.Checks.{IsHistory}
 use Rattle.ritas_core.specs.Laws.{LayerLaws}
 use Rattle.ritas_core.proofs.GoodSlots.{slot_class, slot_origin}
 use Rattle.ritas_core.proofs.Conditions.{good_told, words_proper, may_hear}

@@ -1,5 +1,5 @@
 -- An item that delivers, and then what the service says to that.
-use Rattle.std.proofs.Common.{◌≡◌, ℕ, Bool, false, cond, Option, Some, None, List, [], ◌++◌, refl, subst, sym, ap, ◌∙◌, append-nil}
+use Rattle.std.proofs.Common.{◌≡◌, ℕ, Bool, false, cond, Option, Some, None, List, ◌++◌, refl, subst, sym, ap, ◌∙◌, append-nil}
 use Rattle.std.proofs.Math.Dec.{leb}
 use Rattle.std.specs.BTreeMap as map
 use Rattle.ritas_base.specs.declared.slot.Slot.{Slot}
@@ -16,7 +16,7 @@ use Rattle.ritas_core.specs.Rules.{at_slot_of}
 use Rattle.ritas_core.specs.RulesLaws.{laws_at}
 use Rattle.ritas_core.specs.SlotCast.{CastStandsAt}
 use Rattle.ritas_core.specs.Drops.{is_dropped}
-use Rattle.ritas_core.specs.Casts.{OutputsStand, called, news_at}
+use Rattle.ritas_core.specs.Casts.{called, news_at}
 use Rattle.ritas_core.specs.CastCalls.{CastsTake, CastsRepeat}
 use Rattle.ritas_core.specs.Parts.{Parts, Took, told_news, heard_at, heard_news, taken_at, item_delivers, parts_after, made_by}
 use Rattle.ritas_core.specs.Stands.{Meaning, rules_of, LayersStand, LayersShow}

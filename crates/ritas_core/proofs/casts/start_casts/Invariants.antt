@@ -1,4 +1,4 @@
-use Rattle.std.proofs.Common.{◌≡◌, ◌++◌, Bool, List, take}
+use Rattle.std.proofs.Common.{◌≡◌, ◌++◌, List, take}
 use Rattle.ritas_base.specs.declared.slot.Slot.{Slot}
 use Rattle.ritas_base.specs.History.{Call}
 use Rattle.ritas_core.specs.Rules.{casts_by}

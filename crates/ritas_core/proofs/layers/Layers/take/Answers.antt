@@ -8,10 +8,10 @@ use Rattle.ritas_base.specs.declared.mode.Mode.{Mode}
 use Rattle.ritas_base.specs.SlotOrder.{slot_cmp, is_slot}
 use Rattle.layer_api.specs.declared.broadcast.Heard.{Heard}
 use Rattle.ritas_core.specs.declared.taken.Taken.{Taken}
-use Rattle.ritas_core.specs.declared.taken.Taken.TheVariants.{Took, Repeat}
+use Rattle.ritas_core.specs.declared.taken.Taken.TheVariants.{Took}
 use Rattle.ritas_core.specs.Rules.{casts_by}
 use Rattle.ritas_core.specs.SlotCast.{CastStandsAt, shown_by_cast}
-use Rattle.ritas_core.specs.CastCalls.{CastsTake, CastsRepeat, CastsHear}
+use Rattle.ritas_core.specs.CastCalls.{CastsTake, CastsHear}
 use Rattle.ritas_core.specs.Stands.{Meaning, meaning}
 use Rattle.ritas_core.specs.LayerCalls.{SameSeat, GivesItem}
 use Rattle.ritas_core.proofs.Means.{means_well}
