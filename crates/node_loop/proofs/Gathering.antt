@@ -125,7 +125,7 @@ module _ {S E C : Type 0} (m : Meaning S E C KeyRow) (w : Setting) (past : List 
         taken = λ t. subst (λ (l : List ℕ). TookFront base.taken now.outs.taken l) (sym (ap events_text (events_parts w past s₀ newest) ∙ text_parts es s₀.events))
             (front_more base.taken now.outs.taken (events_text s₀.events) (events_text es) (all_written base.taken now.outs.taken (events_text s₀.events) (gave.written t)));
         told = λ t. rw (gave.told t) (back_none (old ++ base.told) (newest_calls w past start groups));
-        order = let none = (gave.written, gave.told) in of_link (λ x. InOrder tells base now.outs x s₀.events (after groups).events old) (inr none) (inr none) fault gave.own;
+        order = of_link (λ x. InOrder tells base now.outs x s₀.events (after groups).events old) (inr (gave.written, gave.told)) (inr (gave.written, gave.told)) fault gave.own;
         tape_later = tape_on base now.outs fault gave.own gave.cause;
         link_later = gave.link_later;
         cause = gave.cause;
