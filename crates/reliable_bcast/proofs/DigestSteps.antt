@@ -28,7 +28,7 @@ use Rattle.reliable_bcast.specs.Bracha.{ready_value, out_by_value as carried_of}
 use Rattle.reliable_bcast.specs.Laws.Steps.{backing, carrying, is_some_or, is_some_or_some, ready_quiet, ready_echo, ready_ready, out_quiet, out_ready}
 use Rattle.reliable_bcast.specs.Digests.{brings, brought_by, if_digest, known, known_of, to_one, value_for, by_digest, echo_of}
 use Rattle.reliable_bcast.specs.Laws.DigestNews.{ones, gain, gain_for, digest_parts, news_is, gained_or, gained_echo, no_ones, ones_alike, same_parts}
-use Rattle.reliable_bcast.specs.Laws.DigestQuiet.{known_same, newly_asked, want_gain, no_want, no_gain, no_echo, no_ready, start_news}
+use Rattle.reliable_bcast.specs.Laws.DigestQuiet.{known_same, newly_wanted, want_gain, no_want, no_gain, no_echo, no_ready, start_news}
 use Rattle.reliable_bcast.specs.DigestState.{value_with_digest, KeepsDigests, with_known, answer_for, answers_to, answers, has_backing, has_carriers, settled_by_digest, ready_message, want_message, echoed_by, readied_by, wanted_by, after_ready, want_answer}
 
 -- ---- known values
@@ -339,7 +339,7 @@ step_echo b at tags h i keeps kind within none =
 
 -- WANT of what is carried now
 wants_now : (at : Place) (tags : Tags) (h : List Call) (v : List ℕ) (was : Option (List ℕ)) (carries : Bool)
-    → newly_asked at tags h (is_none was) (option_or was (cond carries (Some v) None)) ≡ (if (is_none was && carries) && is_none (known at tags h v) then Some v else None)
+    → newly_wanted at tags h (is_none was) (option_or was (cond carries (Some v) None)) ≡ (if (is_none was && carries) && is_none (known at tags h v) then Some v else None)
 wants_now at tags h v None true = go (known at tags h v)
   where
     go : (o : Option (List ℕ)) → (if is_some o then None else Some v) ≡ (if is_none o then Some v else None)
@@ -398,7 +398,7 @@ step_ready b at tags h i keeps kind within none =
           ∙ (same_parts at.slot _ None _ None _ r _ w _ []
           (no_start at tags h i) (no_echo at tags h (Take i) (init at.slot.origin)) (ready_gain at tags h (Take i) v test more)
           (want_gain at tags h (Take i)
-          ∙ (ap (newly_asked at tags (Take i ∷ h) (is_none (carried_of at h))) out
+          ∙ (ap (newly_wanted at tags (Take i ∷ h) (is_none (carried_of at h))) out
           ∙ (wants_now at tags (Take i ∷ h) v (carried_of at h) test2
           ∙ ap (λ (o : Option (List ℕ)). if (is_none (carried_of at h) && test2) && is_none o then Some v else None) (same v))))
           (no_ones at.slot (gain_for at tags h (Take i)) (replicas p.n) (λ k. no_gain at tags h (Take i) k same (want k)))

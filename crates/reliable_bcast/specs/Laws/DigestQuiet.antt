@@ -25,20 +25,20 @@ known_same at tags h c none d = ap (λ (o : Option (List ℕ)). option_or (known
 -- ---- what is carried and asked for
 
 -- what is asked for newly: what is carried now, was not before, and isn't known
-abbrev pub newly_asked : Place → Tags → List Call → Bool → Option (List ℕ) → Option (List ℕ)
-newly_asked at tags h false o = None
-newly_asked at tags h true None = None
-newly_asked at tags h true (Some d) = if is_some (known at tags h d) then None else Some d
+abbrev pub newly_wanted : Place → Tags → List Call → Bool → Option (List ℕ) → Option (List ℕ)
+newly_wanted at tags h false o = None
+newly_wanted at tags h true None = None
+newly_wanted at tags h true (Some d) = if is_some (known at tags h d) then None else Some d
 
-pub want_gain : (at : Place) (tags : Tags) (h : List Call) (c : Call) → gain at tags h c Want ≡ newly_asked at tags (c ∷ h) (is_none (carried_of at h)) (carried_of at (c ∷ h))
+pub want_gain : (at : Place) (tags : Tags) (h : List Call) (c : Call) → gain at tags h c Want ≡ newly_wanted at tags (c ∷ h) (is_none (carried_of at h)) (carried_of at (c ∷ h))
 want_gain at tags h c = go (full_of at tags h) (some_carried at.numbers (c ∷ h)) (carried_of at h) (full_is at tags h)
   where
-    asked : (o : Option (List ℕ)) → asked_for (full_if at tags (c ∷ h) o) ≡ newly_asked at tags (c ∷ h) true o
+    asked : (o : Option (List ℕ)) → asked_for (full_if at tags (c ∷ h) o) ≡ newly_wanted at tags (c ∷ h) true o
     asked None = refl
     asked (Some d) = refl
 
     go : (f : Option Full) (now was : Option (List ℕ)) → digest_in f ≡ was
-        → gained (asked_for f) (asked_for (option_or f (full_if at tags (c ∷ h) now))) ≡ newly_asked at tags (c ∷ h) (is_none was) (option_or was now)
+        → gained (asked_for f) (asked_for (option_or f (full_if at tags (c ∷ h) now))) ≡ newly_wanted at tags (c ∷ h) (is_none was) (option_or was now)
     go None now None same = asked now
     go None now (Some d) same = absurd (cc)
     go (Some full) now None same = absurd (cc)
@@ -46,9 +46,9 @@ want_gain at tags h c = go (full_of at tags h) (some_carried at.numbers (c ∷ h
 
 -- where nothing more is carried, nothing is asked for
 pub no_want : (at : Place) (tags : Tags) (h : List Call) (c : Call) → carried_of at (c ∷ h) ≡ carried_of at h → gain at tags h c Want ≡ None
-no_want at tags h c same = want_gain at tags h c ∙ (ap (newly_asked at tags (c ∷ h) (is_none (carried_of at h))) same ∙ go (carried_of at h))
+no_want at tags h c same = want_gain at tags h c ∙ (ap (newly_wanted at tags (c ∷ h) (is_none (carried_of at h))) same ∙ go (carried_of at h))
   where
-    go : (o : Option (List ℕ)) → newly_asked at tags (c ∷ h) (is_none o) o ≡ None
+    go : (o : Option (List ℕ)) → newly_wanted at tags (c ∷ h) (is_none o) o ≡ None
     go None = refl
     go (Some d) = refl
 
