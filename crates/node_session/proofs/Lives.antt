@@ -191,7 +191,7 @@ module _ (x : Session) (past : List Event) (w : Setting) (tells : Tells) (stands
     are = tt;
     so = to_life x tells base now end [] _ [] [] _
         (not_begun x.header x.plan tells base now [] (with_past past (recovered w past)) [] [] (wants w past x.until x.limit (recovered w past)) end failed);
-    kept = none_given (moment now stands fails) x tells base now end _ _ failed held;
+    kept = none_given (moment now stands fails) x tells base now end (so_far past (recovered w past)) [] failed held;
     true_of = session [] tt;
     tape_later = failed.tape_later;
     link_later = failed.link_later;
