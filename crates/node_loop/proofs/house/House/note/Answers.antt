@@ -8,7 +8,7 @@ use Rattle.world_model.specs.World.{rules_at, states_of}
 use Rattle.node_loop.specs.Peers.{acknowledged}
 use Rattle.node_loop.specs.Resending.{nothing_more, resends, noted_so}
 use Rattle.node_loop.proofs.Comings.{nothing_comes, only_more}
-use Rattle.node_loop.proofs.Heres.{read_at}
+use Rattle.node_loop.proofs.Heres.{as_here, nowhere, read_at}
 use Rattle.node_loop.proofs.Hearing.{keeper_at, list_elsewhere, one_keeper, comes_with}
 use Rattle.node_loop.proofs.house.House.note.Goals as goal
 
@@ -50,3 +50,9 @@ returns-in-None-clause-comes g c = λ w es numbers ws p stand number clear.
     let said : noted (w.keys at) c.args.bytes.now ≡ None = sym (c.open_note.ensures ∙ ap (λ (k : KeyRow). noted k c.args.bytes.now) keys) ∙ c.in-None.is in
     comes_with _ w es numbers _ c.args.output.now _ (nothing_more p) (noted_so at p (noted (w.keys at) c.args.bytes.now)) (sym (ap (noted_so at p) said))
     (nothing_comes _ w es numbers _ c.args.output.now ws p stand clear)
+
+pub returns-in_default-clause-comes : goal.returns-in_default-clause-comes
+returns-in_default-clause-comes g c = λ w es numbers ws p stand number clear.
+    absurd
+    (nowhere _ w es numbers c.deref.result.now c.args.place c.args.output.now.at
+    (as_here _ w es numbers c.args.self.now.replicas.items c.deref.result.now c.deref.ensures.value stand.here) number c.in_default.ensures.lookup.3)
