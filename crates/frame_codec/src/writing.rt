@@ -30,10 +30,12 @@ fn kind_byte(kind: Kind) -> u8
 pub fn write_body(alloc: Global, item: &Item) -> Result<Bytes, Mem>
     ensures { IfOk result (λ bytes. bytes ≡ spelling item.now) }
 {
-    let mut out = Vec::new(alloc);
+    let value = item.value.as_slice();
+    // Room for all of it: the kind, the nine bytes of the slot, and the value.
+    let mut out = Vec::with_capacity(alloc, 10 + value.len())?;
     out.push(kind_byte(item.kind))?;
     out.extend_from_slice(&item.slot.bytes())?;
-    out.extend_from_slice(item.value.as_slice())?;
+    out.extend_from_slice(value)?;
     Ok(Bytes::from_vec(out))
 }
 
