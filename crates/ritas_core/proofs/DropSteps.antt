@@ -1,5 +1,5 @@
 -- Which broadcasts are dropped, by what the service shows, and that the others stay.
-use Rattle.std.proofs.Common.{◌≡◌, ℕ, ◌+◌, ◌<◌, Bool, true, false, cond, ◌&&◌, Option, Some, None, List, [], ◌∷◌, inl, inr, refl, sym, ◌∙◌, ap}
+use Rattle.std.proofs.Common.{◌≡◌, ℕ, ◌+◌, ◌<◌, Bool, true, false, cond, ◌&&◌, Option, Some, None, List, [], ◌∷◌, inl, inr, refl, sym, ◌∙◌, ap, subst}
 use Rattle.std.specs.FinMap.{get}
 use Rattle.std.proofs.Math.Dec.{eqb, ltb}
 use Rattle.std.proofs.lemmas.Bool.{both_ways, ltb-true}
@@ -75,6 +75,11 @@ module _ (r : Rules) (w : List Word) (shown : ServiceShown) (s : Slot) where
             | inl e ↦ sym e ∙ near
             | inr e ↦ was_not_past r.service laws seat c w proper s (sym e ∙ near)
           ]
+
+-- the number of replicas may be written in another way
+pub dropped_by : {B : Type 0} (shown : ServiceShown) (old new : SlotMap B) (n is : ℕ) → n ≡ is → DropsPast (is_dropped_shown shown n) n old new →
+    DropsPast (is_dropped_shown shown is) is old new
+dropped_by shown old new n is same drops = subst (λ (k : ℕ). DropsPast (is_dropped_shown shown k) k old new) same drops
 
 -- what is dropped stays so by a word more
 still_past : (a b : Bool) → (b ≡ false → a ≡ false) → a ≡ true → b ≡ true

@@ -11,6 +11,7 @@ use Rattle.layer_api.specs.BroadcastCalls.{ShowsCast}
 use Rattle.layer_api.specs.OneValue.{ValueLaws}
 use Rattle.layer_api.specs.Service.{ServiceRules, Seat, WordLaws, AreProper, IsPart}
 use Rattle.layer_api.specs.Words.{Word, Ask, Hear}
+use Rattle.layer_api.specs.Calls.{WordTaken}
 use Rattle.layer_api.specs.ServiceCalls.{ServiceShown, Shows, ShowsBetween}
 use Rattle.instance_tree.specs.SlotMaps.{SlotMap}
 use Rattle.ritas_core.specs.declared.layers.Layers.{Layers}
@@ -19,12 +20,13 @@ use Rattle.ritas_core.specs.Rules.{Rules, seat_of, out_at_slot}
 use Rattle.ritas_core.specs.SlotCast.{CastStandsAt, shown_by_cast}
 use Rattle.ritas_core.specs.Drops.{is_dropped, is_dropped_shown, DropsPast}
 use Rattle.ritas_core.specs.Casts.{CastsStand, CastsShowAt, MayStartAll, started_all, start_news}
-use Rattle.ritas_core.specs.CastCalls.{CanStartAll, StartsCasts, StartsFewer, CanTake, CastsFail}
+use Rattle.ritas_core.specs.CastCalls.{CanStartAll, CanTake, CastsFail}
 use Rattle.ritas_core.specs.Parts.{Parts, Entry, Took, Given, parts, service_told, heard_at, taken_at, item_delivers}
 use Rattle.ritas_core.specs.Checks.{IsHistory}
 use Rattle.ritas_core.specs.Laws.{LayerLaws}
 use Rattle.ritas_core.specs.Stands.{Meaning, rules_of, LayersStand, LayersShow}
-use Rattle.ritas_core.specs.LayerCalls.{MayTell, MayFollow, WereProper, CanTell, TellsLayers, TellsNoLayer, CanTakeItem, LayersTakeNone}
+use Rattle.ritas_core.specs.LayerCalls.{ChangesCasts, StartsSaid, StartsFewerSaid, MayTell, MayFollow}
+use Rattle.ritas_core.specs.LayerCalls.{WereProper, CanTell, TellsLayers, TellsNoLayer, CanTakeItem, LayersTakeNone}
 use Rattle.ritas_core.proofs.Conditions.{words_proper}
 use Rattle.ritas_core.proofs.DropSteps.{not_dropped, dropped_same, dropped_between, dropped_stays, casts_alike, casts_fewer}
 use Rattle.ritas_core.proofs.ShownCasts.{stands_shown, out_started}
@@ -148,13 +150,21 @@ module _ {S E C T : Type 0} (m : Meaning S E C T) (well : MeansWell m) where
             (dropped_between r p.words (m.service_shown service) s well.words word (proper_told r word p can.may proper) (near p can) far));
       }
 
-  -- what the service says to a word is started, after what is past by it was dropped
-  module _ (old : Layers S E C T) (service : S) (mid casts : SlotMap (Cast E)) (word : Word) (says : List Say)
-      (grows : (p : Parts) → CanTell m old word p → m.service_stands service (seat_of (rules_of m old)) (word ∷ p.words))
-      (said : (p : Parts) → CanTell m old word p → says ≡ m.service.says (seat_of (rules_of m old)) p.words word)
-      (drops : DropsPast (is_dropped_shown (m.service_shown service) old.params.n) old.params.n old.casts mid) where
+  -- a word that the service took: what is past by it was dropped, and what it says to it started
+  module _ (old : Layers S E C T) (service : S) (new : Layers S E C T) (word : Word) (may : Seat → List Word → Type 0) (none said says : List Say)
+      (met : (p : Parts) → CanTell m old word p → may (seat_of (rules_of m old)) p.words)
+      (taken : WordTaken m.service_stands m.service.says old.service service word may none said)
+      (nothing : none ≡ []) (same : says ≡ said) (rest : ChangesCasts (record old { service = service }) new) where
     abbrev Later : Slot → Bool
     Later = is_dropped_shown (m.service_shown service) old.params.n
+
+    grows : (p : Parts) → CanTell m old word p → m.service_stands service (seat_of (rules_of m old)) (word ∷ p.words)
+    grows p can = taken.grows (seat_of (rules_of m old)) p.words can.stood.service (met p can)
+
+    says_it : (p : Parts) → CanTell m old word p → says ≡ m.service.says (seat_of (rules_of m old)) p.words word
+    says_it p can =
+        same ∙ taken.made (seat_of (rules_of m old)) p.words can.stood.service (met p can)
+        ∙ ap (λ (xs : List Say). xs ++ m.service.says (seat_of (rules_of m old)) p.words word) nothing
 
     proper_after : (p : Parts) → CanTell m old word p → WereProper m old p → AreProper m.service (seat_of (rules_of m old)) (word ∷ p.words)
     proper_after p can proper = proper_told (rules_of m old) word p can.may proper
@@ -165,44 +175,42 @@ module _ {S E C T : Type 0} (m : Meaning S E C T) (well : MeansWell m) where
         (well.service_shows service (seat_of (rules_of m old)) (word ∷ p.words) (grows p can))
 
     may_say : (p : Parts) → CanTell m old word p → MayStartAll (rules_of m old).casts says p.calls
-    may_say p can = subst (λ (xs : List Say). MayStartAll (rules_of m old).casts xs p.calls) (sym (said p can)) (may_start_said (rules_of m old) word p can.may)
+    may_say p can =
+        subst (λ (xs : List Say). MayStartAll (rules_of m old).casts xs p.calls) (sym (says_it p can)) (may_start_said (rules_of m old) word p can.may)
 
-    can_start : (p : Parts) → CanTell m old word p → WereProper m old p →
-        CanStartAll (CastStandsAt old.mode m.cast_stands) (rules_of m old).casts Later (m.me old.tagger) mid says p.calls
-    can_start p can proper = record {
+    can_start : (left : SlotMap (Cast E)) → DropsPast Later old.params.n old.casts left → (p : Parts) → CanTell m old word p → WereProper m old p →
+        CanStartAll (CastStandsAt old.mode m.cast_stands) (rules_of m old).casts Later (m.me old.tagger) left says p.calls
+    can_start left drops p can proper = record {
       is_own = can.is_own;
       may = may_say p can;
       stood = casts_fewer (CastStandsAt old.mode m.cast_stands) (rules_of m old).casts (is_dropped (rules_of m old) p.words) Later p.calls
           (λ s past. same_drops p can s ∙ dropped_stays (rules_of m old) well.words word p.words (proper_after p can proper) s past)
-          old.casts mid drops can.stood.casts;
+          old.casts left drops can.stood.casts;
     }
 
-    pub starts_told : (before after_it : List Msg) →
-        StartsCasts (CastStandsAt old.mode m.cast_stands) (rules_of m old).casts Later (m.me old.tagger) mid casts says before after_it →
-        TellsLayers m old (record old { service = service; casts = casts }) word before after_it
-    starts_told before after_it starts = record {
+    pub starts_told : (before after_it : List Msg) → StartsSaid m (record old { service = service }) new says before after_it →
+        TellsLayers m old new word before after_it
+    starts_told before after_it starts = subst (λ (layers : Layers S E C T). TellsLayers m old layers word before after_it) (sym rest) (record {
       grows = λ p can proper. record {
         service = grows p can;
         casts = casts_alike (CastStandsAt old.mode m.cast_stands) (rules_of m old).casts Later (is_dropped (rules_of m old) (word ∷ p.words))
-            (started_all (m.service.says (seat_of (rules_of m old)) p.words word) p.calls) casts (same_drops p can)
-            (subst (λ (xs : List Say). CastsStand (CastStandsAt old.mode m.cast_stands) (rules_of m old).casts Later casts (started_all xs p.calls)) (said p can)
-            (starts.grows p.calls (can_start p can proper)));
+            (started_all (m.service.says (seat_of (rules_of m old)) p.words word) p.calls) new.casts (same_drops p can)
+            (subst (λ (xs : List Say). CastsStand (CastStandsAt old.mode m.cast_stands) (rules_of m old).casts Later new.casts (started_all xs p.calls))
+            (says_it p can) (starts.starts.grows p.calls (can_start starts.left starts.drops p can proper)));
       };
-      made = λ p can proper. starts.made p.calls (can_start p can proper)
-          ∙ ap (λ (xs : List Say). before ++ start_news (rules_of m old).casts xs p.calls) (said p can);
-    }
+      made = λ p can proper. starts.starts.made p.calls (can_start starts.left starts.drops p can proper)
+          ∙ ap (λ (xs : List Say). before ++ start_news (rules_of m old).casts xs p.calls) (says_it p can);
+    })
 
-    pub starts_fail :
-        StartsFewer (CastStandsAt old.mode m.cast_stands) (shown_by_cast m.cast_shown) (rules_of m old).casts Later (m.me old.tagger) mid casts says →
-        TellsNoLayer m old (record old { service = service; casts = casts }) word
-    starts_fail fewer p can proper =
+    pub starts_fail : StartsFewerSaid m (record old { service = service }) new says → TellsNoLayer m old new word
+    starts_fail fewer = subst (λ (layers : Layers S E C T). TellsNoLayer m old layers word) (sym rest) (λ p can proper.
         let seat = seat_of (rules_of m old) in
         record {
           service = between_later m.service seat p.words (word ∷ p.words) (m.service_shown service)
               (done_part m.service well.words seat word p.words (proper_after p can proper))
               (well.service_shows service seat (word ∷ p.words) (grows p can));
-          casts = λ s near. inl (fewer p.calls (can_start p can proper) s near);
-        }
+          casts = λ s near. inl (fewer.starts p.calls (can_start fewer.left fewer.drops p can proper) s near);
+        })
 
   -- ---- an item that its broadcast had no memory for
   pub out_heard : (layers : Layers S E C T) (x : Slot) (d : Option (List ℕ)) (p : Parts) (s : Slot) →

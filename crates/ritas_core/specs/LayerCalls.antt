@@ -5,16 +5,21 @@ use Rattle.ritas_base.specs.declared.bytes.Mem.{Mem}
 use Rattle.ritas_base.specs.declared.slot.Slot.{Slot}
 use Rattle.ritas_base.specs.declared.item.Item.{Item}
 use Rattle.ritas_base.specs.declared.item.Msg.{Msg}
+use Rattle.ritas_base.specs.declared.item.Say.{Say}
 use Rattle.ritas_base.specs.SlotOrder.{slot_cmp}
 use Rattle.layer_api.specs.declared.broadcast.Heard.{Heard}
 use Rattle.layer_api.specs.declared.broadcast.Heard.TheVariants as heard
 use Rattle.layer_api.specs.Broadcast.{MayTake}
 use Rattle.layer_api.specs.Service.{MayAsk, MayHear, AreProper, is_past}
 use Rattle.layer_api.specs.Words.{Word, Ask, Hear}
+use Rattle.instance_tree.specs.SlotMaps.{SlotMap}
+use Rattle.ritas_core.specs.declared.cast.Cast.{Cast}
 use Rattle.ritas_core.specs.declared.layers.Layers.{Layers}
 use Rattle.ritas_core.specs.Rules.{Rules, seat_of, place_at}
+use Rattle.ritas_core.specs.SlotCast.{CastStandsAt, shown_by_cast}
+use Rattle.ritas_core.specs.Drops.{is_dropped_shown, DropsPast}
 use Rattle.ritas_core.specs.Casts.{MayStartAll, OutputsStand}
-use Rattle.ritas_core.specs.CastCalls.{IsOwnTagger, is_ready_in}
+use Rattle.ritas_core.specs.CastCalls.{IsOwnTagger, StartsCasts, StartsFewer, is_ready_in}
 use Rattle.ritas_core.specs.Parts.{Parts, Took, service_told, told_news, taken_at, item_delivers, parts_after, made_by}
 use Rattle.ritas_core.specs.Checks.{is_item_past, is_item_ahead, is_taken_again}
 use Rattle.ritas_core.specs.Stands.{Meaning, rules_of, LayersStand, LayersShow}
@@ -48,6 +53,24 @@ WereProper m layers p = AreProper m.service (seat_of (rules_of m layers)) p.word
 -- each slot has the output that it had
 abbrev pub KeepsOutputs : {S E C T : Type 0} → Layers S E C T → Layers S E C T → Type 0
 KeepsOutputs old new = (s : Slot) → get slot_cmp new.outputs s ≡ get slot_cmp old.outputs s
+
+-- nothing but the broadcasts changed
+abbrev pub ChangesCasts : {S E C T : Type 0} → Layers S E C T → Layers S E C T → Type 0
+ChangesCasts old new = new ≡ record old { casts = new.casts }
+
+-- the broadcasts that are past, by what the service shows, were dropped, and then these says were started beside those left
+pub record StartsSaid {S E C T : Type 0} (m : Meaning S E C T) (old new : Layers S E C T) (says : List Say) (before after_it : List Msg) : Type 0 where
+  pub left : SlotMap (Cast E)
+  pub drops : DropsPast (is_dropped_shown (m.service_shown old.service) old.params.n) old.params.n old.casts left
+  pub starts : StartsCasts (CastStandsAt old.mode m.cast_stands) (rules_of m old).casts
+      (is_dropped_shown (m.service_shown old.service) old.params.n) (m.me old.tagger) left new.casts says before after_it
+
+-- for want of memory not all were
+pub record StartsFewerSaid {S E C T : Type 0} (m : Meaning S E C T) (old new : Layers S E C T) (says : List Say) : Type 0 where
+  pub left : SlotMap (Cast E)
+  pub drops : DropsPast (is_dropped_shown (m.service_shown old.service) old.params.n) old.params.n old.casts left
+  pub starts : StartsFewer (CastStandsAt old.mode m.cast_stands) (shown_by_cast m.cast_shown) (rules_of m old).casts
+      (is_dropped_shown (m.service_shown old.service) old.params.n) (m.me old.tagger) left new.casts says
 
 -- the service may have a word
 pub record CanTell {S E C T : Type 0} (m : Meaning S E C T) (layers : Layers S E C T) (word : Word) (p : Parts) : Type 0 where

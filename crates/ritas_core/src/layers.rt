@@ -15,7 +15,7 @@ use crate::taken::Taken;
 use frame_codec::input_fault;
 use instance_tree::Tree;
 use layer_api::{Broadcast, COMMAND_WINDOW, Heard, Service};
-use ritas_base::{Bytes, Coin, Item, Mem, Mode, Msg, NUMBER_LIMIT, Params, Slot, Tagger};
+use ritas_base::{Bytes, Coin, Item, Mem, Mode, Msg, NUMBER_LIMIT, Params, Say, Slot, Tagger};
 use std::alloc::Global;
 use std::collections::BTreeMap;
 
@@ -60,8 +60,31 @@ impl<S: Service, E: Broadcast, C: Coin + Drop, T: Tagger + Drop> Layers<S, E, C,
     ghost use Rattle.ritas_core.specs.Checks.{mark_of, window_fault, input_check};
     ghost use Rattle.frame_codec.specs.Inputs.{IsInput};
     ghost use Rattle.ritas_core.specs.Stands.{meaning, rules_of, LayersStand};
+    ghost use Rattle.ritas_core.specs.LayerCalls.{ChangesCasts, StartsSaid, StartsFewerSaid};
     ghost use Rattle.ritas_core.specs.LayerCalls.{SameSeat, KeepsOutputs, TellsLayers, TellsNoLayer, GivesItem, is_past_in, is_let_in, is_open_in};
     ghost use Rattle.ritas_core.specs.Drops.{mark_shown, is_past_shown, hides_shown};
+
+    /// Drops the broadcasts that are past by what the service was told, and starts what it says.
+    fn start_said(&mut self, alloc: Global, says: &[Say], made: &mut Vec<Msg>) -> Result<(), Mem>
+        ensures ok { let m = meaning S.stands S.rules S.shown E.stands E.rules E.shown C.bits T.me T.tags in
+            OnOk result (StartsSaid m self.old self.new says.now made.old.items made.new.items) }
+        ensures err { let m = meaning S.stands S.rules S.shown E.stands E.rules E.shown C.bits T.me T.tags in
+            OnErr result (StartsFewerSaid m self.old self.new says.now) }
+        ensures rest { ChangesCasts self.old self.new }
+    {
+        drop_past(&self.service, self.params.n(), &mut self.casts);
+        start_casts(
+            alloc,
+            &self.params,
+            &self.mode,
+            self.me,
+            &self.tagger,
+            &self.service,
+            &mut self.casts,
+            says,
+            made,
+        )
+    }
 
     /// Tells the service what a slot delivered, drops the broadcasts that are past by that, and starts what it says.
     fn hear(
@@ -81,18 +104,7 @@ impl<S: Service, E: Broadcast, C: Coin + Drop, T: Tagger + Drop> Layers<S, E, C,
         let mut says = Vec::new(alloc);
         self.service
             .heard(alloc, &self.coin, slot, value, &mut says)?;
-        drop_past(&self.service, self.params.n(), &mut self.casts);
-        start_casts(
-            alloc,
-            &self.params,
-            &self.mode,
-            self.me,
-            &self.tagger,
-            &self.service,
-            &mut self.casts,
-            says.as_slice(),
-            made,
-        )
+        self.start_said(alloc, says.as_slice(), made)
     }
 
     /// Gives the service an input, drops the broadcasts that are past by that, and starts what it says.
@@ -111,18 +123,7 @@ impl<S: Service, E: Broadcast, C: Coin + Drop, T: Tagger + Drop> Layers<S, E, C,
     {
         let mut says = Vec::new(alloc);
         self.service.input(alloc, value, &mut says)?;
-        drop_past(&self.service, self.params.n(), &mut self.casts);
-        start_casts(
-            alloc,
-            &self.params,
-            &self.mode,
-            self.me,
-            &self.tagger,
-            &self.service,
-            &mut self.casts,
-            says.as_slice(),
-            made,
-        )
+        self.start_said(alloc, says.as_slice(), made)
     }
 
     /// Gives an item to its broadcast, and what is delivered by it to the service.
