@@ -1,11 +1,9 @@
 //! Tests of each check of a core, with its answer.
 
-ghost use Rattle.std.specs.Prelude.{◌<◌};
-
-use crate::zeros::{ZeroCoin, ZeroTagger};
+use crate::zeros::{ZeroCoin, ZeroTagger, new_core};
 use layer_api::{Outcome, Service};
 use reliable_bcast::Rb;
-use ritas_base::{Bytes, Coin, Id, Item, Kind, Mem, Mode, Msg, Params, Say, Slot, Tagger, Vect};
+use ritas_base::{Bytes, Coin, Id, Item, Kind, Mem, Msg, Params, Say, Slot, Tagger};
 use ritas_core::{
     Answer, Core, CoreFault, delivered_within, entry_laws, history_laws, kinds_fit, new_is_due,
     verdict_laws,
@@ -194,16 +192,6 @@ fn item(
     })
 }
 
-// Vector consensus where VECTs go by reliable broadcast too.
-fn new_core(alloc: Global, p: Params) -> Result<MuteCore, Mem>
-    requires { 0 < p.n }
-{
-    match Mode::new(5, Vect::Reliable) {
-        None => Err(Mem),
-        Some(mode) => Core::new(alloc, p, mode, 0, ZeroTagger { me: 0 }, ZeroCoin),
-    }
-}
-
 // Items that another than the origin sends or gets are refused, values and VECTs are let in, and steps of consensus are held.
 fn take_items(rt: &impl Abort, alloc: Global, core: &mut MuteCore, out: &mut Vec<Msg>) {
     let table = [
@@ -274,12 +262,12 @@ fn shows(rt: &impl Abort, core: &MuteCore) {
     );
 }
 
-// Replica 0 of 4.
+// Replica 0 of 4, in vector consensus where VECTs go by reliable broadcast too.
 #[test]
 fn each_check_has_its_answer(rt: HostRuntime) {
     let alloc = rt.alloc();
     let p = Params::new(4, 1).expect(&rt, "numbers");
-    let mut core = new_core(alloc, p).expect(&rt, "new");
+    let mut core: MuteCore = new_core(alloc, p, 5).expect(&rt, "new");
     let mut out: Vec<Msg> = Vec::new(alloc);
     take_items(&rt, alloc, &mut core, &mut out);
     take_inputs(&rt, alloc, &mut core, &mut out);

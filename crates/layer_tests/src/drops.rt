@@ -1,26 +1,15 @@
 //! A test that a core drops the broadcasts of past slots, and keeps what they delivered in root service 1.
 
-ghost use Rattle.std.specs.Prelude.{◌<◌};
-
-use crate::zeros::{ZeroCoin, ZeroTagger};
+use crate::zeros::{ZeroCoin, ZeroTagger, new_core};
 use atomic_bcast::CmdRoot;
 use reliable_bcast::Rb;
-use ritas_base::{Mem, Mode, Msg, Params, Slot, Vect};
+use ritas_base::{Msg, Params, Slot};
 use ritas_core::{Answer, Core};
 use std::alloc::Global;
 use std::process::Abort;
 
 /// A replica of a session of one, which serves commands alone.
 type LoneCore = Core<CmdRoot, Rb, ZeroCoin, ZeroTagger>;
-
-fn new_core(alloc: Global, p: Params) -> Result<LoneCore, Mem>
-    requires { 0 < p.n }
-{
-    match Mode::new(1, Vect::Reliable) {
-        None => Err(Mem),
-        Some(mode) => Core::new(alloc, p, mode, 0, ZeroTagger { me: 0 }, ZeroCoin),
-    }
-}
 
 // An input is delivered once its INIT, ECHO and READY came to the replica itself.
 fn deliver_one(rt: &impl Abort, alloc: Global, core: &mut LoneCore, out: &mut Vec<Msg>) {
@@ -35,7 +24,7 @@ fn deliver_one(rt: &impl Abort, alloc: Global, core: &mut LoneCore, out: &mut Ve
 fn past_commands_are_dropped(rt: HostRuntime) {
     let alloc = rt.alloc();
     let p = Params::new(1, 0).expect(&rt, "one replica");
-    let mut core = new_core(alloc, p).expect(&rt, "memory");
+    let mut core: LoneCore = new_core(alloc, p, 1).expect(&rt, "memory");
     let mut out = Vec::new(alloc);
     for _ in 0..70 {
         deliver_one(&rt, alloc, &mut core, &mut out);

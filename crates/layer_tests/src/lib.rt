@@ -13,7 +13,7 @@
 //! | `orders` | `atomic_bcast` |
 //! | `cores`, `drops` | `ritas_core` |
 //!
-//! `zeros` has a tagger and a coin whose bytes are zeros.
+//! `zeros` has a tagger and a coin whose bytes are zeros, and a core with these.
 #![tactic(auto)]
 
 #[cfg(test)]

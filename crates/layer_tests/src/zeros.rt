@@ -1,8 +1,12 @@
-//! A tagger and a coin whose answers are all zeros, for what asks neither, or asks for bits alone.
+//! A tagger and a coin whose answers are all zeros, for what asks neither, or asks for bits alone; and a core with these.
 
-ghost use Rattle.std.specs.Prelude.{◌≡◌, refl, replicate};
+ghost use Rattle.std.specs.Prelude.{◌≡◌, ◌<◌, refl, replicate};
 
-use ritas_base::{Coin, Slot, Tagger};
+use layer_api::Service;
+use reliable_bcast::Rb;
+use ritas_base::{Coin, Mem, Mode, Params, Slot, Tagger, Vect};
+use ritas_core::Core;
+use std::alloc::Global;
 
 /// A tagger whose answers are all zeros.
 #[derive(Drop)]
@@ -41,5 +45,22 @@ impl Coin for ZeroCoin {
 
     fn toss(&self, _slot: &Slot) -> bool {
         false
+    }
+}
+
+/// The core of replica 0 where all goes by reliable broadcast, in a root service that `S` serves and that isn't 2; else `Mem`.
+pub(crate) fn new_core<S: Service>(
+    alloc: Global,
+    p: Params,
+    root: u8,
+) -> Result<Core<S, Rb, ZeroCoin, ZeroTagger>, Mem>
+    requires { 0 < p.n }
+{
+    if root == 2 || !S::serves(root) {
+        return Err(Mem);
+    }
+    match Mode::new(root, Vect::Reliable) {
+        None => Err(Mem),
+        Some(mode) => Core::new(alloc, p, mode, 0, ZeroTagger { me: 0 }, ZeroCoin),
     }
 }
