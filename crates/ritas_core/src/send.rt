@@ -71,7 +71,7 @@ fn put_in(sorted: &mut Vec<Msg>, m: Msg) -> Result<(), Mem>
 pub(crate) fn in_order(alloc: Global, made: Vec<Msg>) -> Result<Vec<Msg>, Mem>
     ensures { IfOk result (λ sorted. sorted.items ≡ ordered made.items) }
 {
-    let mut sorted = Vec::new(alloc);
+    let mut sorted = Vec::with_capacity(alloc, made.len())?;
     for m in made {
         put_in(&mut sorted, m)?;
     }
