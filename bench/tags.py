@@ -3,6 +3,7 @@ import ctypes
 import hmac
 import os
 import resource
+import statistics
 import struct
 import subprocess
 import sys
@@ -11,6 +12,8 @@ import tempfile
 N, SESSION = 31, 0
 MASTER = bytes(32)
 RUNS = 5
+# Times that are compared are taken by turns, so often.
+TURNS = 9
 HERE = os.path.dirname(os.path.abspath(__file__))
 
 
@@ -68,7 +71,8 @@ double tag_all(const uint8_t *keys, const uint8_t *texts, size_t size, uint8_t *
 """
 
 
-def openssl(folder: str, tagged) -> float:
+def openssl(folder: str, tagged):
+    """What makes OpenSSL's tags of these texts once, and says the processor time that it took."""
     source, library = os.path.join(folder, "tags.c"), os.path.join(folder, "tags.so")
     with open(source, "w") as file:
         file.write(C_SOURCE)
@@ -79,11 +83,20 @@ def openssl(folder: str, tagged) -> float:
     call.restype = ctypes.c_double
     texts = b"".join(bytes([peer]) + struct.pack(">H", len(head)) + head for peer, head in tagged)
     last = ctypes.create_string_buffer(32)
-    least = min(call(b"".join(KEYS), texts, ctypes.c_size_t(len(texts)), last) for _ in range(4 * RUNS))
+    keys, size = b"".join(KEYS), ctypes.c_size_t(len(texts))
+    call(keys, texts, size, last)
     peer, text = tagged[-1]
     if last.raw != tag(KEYS[peer], text):
         sys.exit("bench: OpenSSL's tag isn't that of Python's hmac")
-    return least
+    return lambda: call(keys, texts, size, last)
+
+
+def compared(ours, theirs):
+    """The least time of each of two, taken by turns, and the median of the ratios of each turn: where the machine is now fast and now slow, both of a turn
+    mostly meet the same."""
+    turns = [(ours(), theirs()) for _ in range(TURNS)]
+    our_times, their_times = zip(*turns)
+    return min(our_times), min(their_times), statistics.median(a / b for a, b in turns)
 
 
 def children_time() -> float:
