@@ -1,29 +1,25 @@
 -- One replica more that met something, and one message or entry more, in a table.
-use Rattle.std.proofs.Common.{◌≡◌, ℕ, Bool, true, false, not, ◌&&◌, List, ◌∷◌, Option, Some, None, refl, sym, ◌∙◌, ap, ap₂, subst, ◌⊎◌, inl, inr, cond, if◌then◌else◌}
-use Rattle.std.specs.Cmp.{IsTotalOrder, nat_cmp_total, then_total, on_total}
-use Rattle.std.proofs.lemmas.Cmp.{tied_itself}
-use Rattle.std.proofs.lemmas.Map.Lookups.{CmpEqualImpliesEq, exact_pairs, exact_unsigned}
+use Rattle.std.proofs.Common.{◌≡◌, ℕ, ◌==◌, Bool, true, false, not, ◌&&◌, List, ◌∷◌, Option, Some, None, refl, sym, ◌∙◌, ap, ap₂, subst, ◌⊎◌, inl, inr, cond, if◌then◌else◌}
 use Rattle.std.specs.BTreeMap.{BTreeMap, get, is_at}
-use Rattle.std.specs.Ordering.{nat_cmp, is_eq}
 use Rattle.std.specs.Str.{bytes_eq}
 use Rattle.std.specs.List.{list_any}
-use Rattle.std.specs.Option.{option_or, is_some}
+use Rattle.std.specs.Option.{option_or}
 use Rattle.std.proofs.lemmas.Bool.{eq-eqb, false≢true}
 use Rattle.std.proofs.lemmas.Option.{same_Some}
 use Rattle.sha2.specs.Sha256.{sha256}
 use Rattle.std.proofs.lemmas.Slice.Eq.{bytes_eq-Decides}
 use Rattle.std.proofs.lemmas.Map.Text.{is_eq-slice_cmp}
 use Rattle.ritas_base.specs.declared.slot.Slot.{Slot}
-use Rattle.ritas_base.specs.SlotOrder.{slot_cmp, slot_itself, exact_slots, slots_total, equal_from}
+use Rattle.ritas_base.specs.SlotOrder.{slot_cmp, is_slot, slot_itself, same_slot}
 use Rattle.keyed_channel.specs.KeyRow.{KeyRow}
 use Rattle.keyed_channel.specs.Keyed.{tags_of}
 use Rattle.layer_api.specs.Runs.{Has}
 use Rattle.layer_api.specs.Entries.{EntryInput, Print, OfMessage, OfEntry}
-use Rattle.world_model.specs.declared.met.SlotAt.{SlotAt}
+use Rattle.world_model.specs.declared.met.MetAtSlot.{MetAtSlot}
 use Rattle.world_model.specs.declared.hashed.HashedEntry.{HashedEntry}
 use Rattle.world_model.specs.declared.hashed.Hashed.{Hashed}
 use Rattle.world_model.specs.Met.{MetEntries}
-use Rattle.world_model.specs.Hashed.{at_cmp, entries_met_at, is_same_at, image_cmp, input_of, input_in, digest_at, has_digest, entry_input_at, HashedStand, IsDigestOf, Clash, Adds}
+use Rattle.world_model.specs.Hashed.{met_in, entries_met_at, is_same_at, image_cmp, input_of, input_in, digest_at, has_digest, entry_input_at, HashedStand, IsDigestOf, Clash, Adds}
 use Rattle.world_model.specs.Audit.{is_same_input, clashes, collide}
 use Rattle.world_model.proofs.Prints.{same_input}
 use Rattle.world_model.proofs.Anywhere.{all_fail, any_of}
@@ -41,52 +37,27 @@ bytes_itself a = (bytes_eq-Decides a a).1 refl
 
 -- ---- a replica more that met
 
-exact_at : CmpEqualImpliesEq at_cmp
-exact_at a b h = ap (λ (x : Slot × ℕ). record { slot = x.0; replica = x.1 }) (exact_pairs slot_cmp nat_cmp exact_slots exact_unsigned (a.slot, a.replica) (b.slot, b.replica) h)
-
-at_total : IsTotalOrder at_cmp
-at_total = then_total (on_total (λ x. x.slot) slots_total) (on_total (λ x. x.replica) nat_cmp_total)
-
-pub same_at : (s : Slot) (i : ℕ) (q : Slot) (j : ℕ) → is_same_at s i q j ≡ true → (s ≡ q) × (i ≡ j)
-same_at s i q j h =
-    let same : record { slot = s; replica = i } ≡ record { slot = q; replica = j } = exact_at (record { slot = s; replica = i }) (record { slot = q; replica = j }) (equal_from (at_cmp (record { slot = s; replica = i }) (record { slot = q; replica = j })) h) in
-    (ap (λ (x : SlotAt). x.slot) same, ap (λ (x : SlotAt). x.replica) same)
-
-pub at_itself : (s : Slot) (i : ℕ) → is_same_at s i s i ≡ true
-at_itself s i = ap is_eq (tied_itself at_total (record { slot = s; replica = i }))
-
-some_stays : (o : Option MetEntries) (d : MetEntries) → is_some o ≡ true → o ≡ option_or o (Some d)
-some_stays None d h = absurd (cc)
-some_stays (Some x) d h = refl
-
-none_then : (o : Option MetEntries) (d : MetEntries) → is_some o ≡ false → Some d ≡ option_or o (Some d)
-none_then None d h = refl
-none_then (Some x) d h = absurd (cc)
-
--- where there is one, it stays
-kept_at : (m : BTreeMap SlotAt MetEntries) (s : Slot) (i : ℕ) (d : MetEntries) (q : Slot) (j : ℕ) (b : Bool) → is_some (entries_met_at m s i) ≡ true → is_same_at s i q j ≡ b →
-    entries_met_at m q j ≡ (if b then option_or (entries_met_at m q j) (Some d) else entries_met_at m q j)
-kept_at m s i d q j true there here =
-    let same = same_at s i q j here in
-    some_stays (entries_met_at m q j) d (ap₂ (λ (x : Slot) (y : ℕ). is_some (entries_met_at m x y)) (sym same.0) (sym same.1) ∙ there)
-kept_at m s i d q j false there here = refl
-
-pub met_kept : (m : BTreeMap SlotAt MetEntries) (s : Slot) (i : ℕ) (d : MetEntries) → is_some (entries_met_at m s i) ≡ true → (q : Slot) (j : ℕ) →
-    entries_met_at m q j ≡ (if is_same_at s i q j then option_or (entries_met_at m q j) (Some d) else entries_met_at m q j)
-met_kept m s i d there q j = kept_at m s i d q j (is_same_at s i q j) there refl
-
--- where there is none, there is this one
-put_at : (m n : BTreeMap SlotAt MetEntries) (s : Slot) (i : ℕ) (d : MetEntries) (q : Slot) (j : ℕ) (b : Bool) → is_some (entries_met_at m s i) ≡ false → is_same_at s i q j ≡ b →
-    entries_met_at n q j ≡ cond b (Some d) (entries_met_at m q j) → entries_met_at n q j ≡ (if b then option_or (entries_met_at m q j) (Some d) else entries_met_at m q j)
-put_at m n s i d q j true none here put =
-    let same = same_at s i q j here in
-    put ∙ none_then (entries_met_at m q j) d (ap₂ (λ (x : Slot) (y : ℕ). is_some (entries_met_at m x y)) (sym same.0) (sym same.1) ∙ none)
-put_at m n s i d q j false none here put = put
-
-pub met_put : (m n : BTreeMap SlotAt MetEntries) (s : Slot) (i : ℕ) (d : MetEntries) → is_some (entries_met_at m s i) ≡ false →
-    ((x : SlotAt) → get at_cmp n x ≡ cond (is_at (at_cmp (record { slot = s; replica = i })) x) (Some d) (get at_cmp m x)) → (q : Slot) (j : ℕ) →
+-- a slot that has one more
+pub slot_put : (m n : BTreeMap Slot MetAtSlot) (s : Slot) (i : ℕ) (d : MetEntries) (old : Option MetAtSlot) (new : MetAtSlot) → old ≡ get slot_cmp m s →
+    ((j : ℕ) → met_in (Some new) j ≡ (if i == j then option_or (met_in old j) (Some d) else met_in old j)) →
+    ((q : Slot) → get slot_cmp n q ≡ cond (is_slot s q) (Some new) (get slot_cmp m q)) → (q : Slot) (j : ℕ) →
     entries_met_at n q j ≡ (if is_same_at s i q j then option_or (entries_met_at m q j) (Some d) else entries_met_at m q j)
-met_put m n s i d none put q j = put_at m n s i d q j (is_same_at s i q j) none refl (put (record { slot = q; replica = j }))
+slot_put m n s i d old new was added put q j = ap (λ o. met_in o j) (put q) ∙ go (is_slot s q) refl
+  where
+    and_true : (b : Bool) → (b && true) ≡ b
+    and_true true = refl
+    and_true false = refl
+
+    and_false : (b : Bool) → (b && false) ≡ false
+    and_false true = refl
+    and_false false = refl
+
+    go : (b : Bool) → is_slot s q ≡ b → met_in (cond b (Some new) (get slot_cmp m q)) j
+        ≡ (if i == j && b then option_or (entries_met_at m q j) (Some d) else entries_met_at m q j)
+    go true same =
+        added j
+        ∙ ap₂ (λ b o. if b then option_or (met_in o j) (Some d) else met_in o j) (sym (and_true (i == j))) (was ∙ ap (get slot_cmp m) (same_slot s q same))
+    go false apart = ap (λ b. if b then option_or (entries_met_at m q j) (Some d) else entries_met_at m q j) (sym (and_false (i == j)))
 
 -- ---- a print more
 

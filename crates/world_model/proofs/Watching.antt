@@ -9,7 +9,7 @@ use Rattle.ritas_base.specs.declared.item.Item.{Item}
 use Rattle.ritas_base.specs.declared.item.Kind.{Kind}
 use Rattle.ritas_base.specs.declared.item.Kind.TheVariants.{Send, Column}
 use Rattle.ritas_base.specs.declared.item.Kind.TheVariants as kinds
-use Rattle.ritas_base.specs.SlotOrder.{is_slot, same_slot, slot_itself}
+use Rattle.ritas_base.specs.SlotOrder.{slot_cmp, is_slot, same_slot, slot_itself}
 use Rattle.ritas_base.specs.Shortest.{option_or_none}
 use Rattle.ritas_base.specs.HistoryLaws.{kind_eq_is}
 use Rattle.ritas_base.specs.declared.mode.Mode.{Mode}
@@ -34,15 +34,15 @@ use Rattle.world_model.specs.declared.watch.Watch.{Watch}
 use Rattle.world_model.specs.declared.hashed.Hashed.{Hashed}
 use Rattle.world_model.specs.World.{Setting, rules_at, CallAt, handled_at, after_call}
 use Rattle.world_model.specs.Audit.{newest_item, taken_by, calls_at, place_in, given_by, is_among, is_made_up, is_forged_item, is_forged_at, prints_in, prints_by, prints_at, collide, broken_by}
-use Rattle.std.specs.BTreeMap.{BTreeMap}
-use Rattle.world_model.specs.declared.met.SlotAt.{SlotAt}
+use Rattle.std.specs.BTreeMap.{BTreeMap, get}
+use Rattle.world_model.specs.declared.met.MetAtSlot.{MetAtSlot}
 use Rattle.world_model.specs.Met.{MetEntries, pair_of, met_with, met_for, entries_given, is_expected, is_unknown}
-use Rattle.world_model.specs.Hashed.{entries_met_at, is_same_at, HashedStand, IsDigestOf, prints_with, prints_by_kind, print_of, AreMet, Meets}
+use Rattle.world_model.specs.Hashed.{met_in, entries_met_at, is_same_at, HashedStand, IsDigestOf, prints_with, prints_by_kind, print_of, AreMet, Meets}
 use Rattle.world_model.specs.Stands.{SeatsStand}
-use Rattle.world_model.specs.Watch.{IsAt, item_taken, is_watched, watched, IsGoodIf, is_forged_frame, IsTold, TablesStand, WatchStands, verdict_after, met_said, MeetsItem}
+use Rattle.world_model.specs.Watch.{IsAt, item_taken, is_watched, watched, IsGoodIf, is_forged_frame, IsTold, TablesStand, SlotStands, WatchStands, verdict_after, met_said, MeetsItem}
 use Rattle.world_model.proofs.Anywhere.{all_fail, any_of, has_among, among_from, has_number}
 use Rattle.world_model.proofs.Prints.{sent_taken, sent_given}
-use Rattle.world_model.proofs.HashedSteps.{none_collide, clash_collides, same_at, at_itself}
+use Rattle.world_model.proofs.HashedSteps.{none_collide, clash_collides}
 use Rattle.world_model.proofs.Meeting.{Within, collide_within, stand_within, message_clashes}
 use Rattle.world_model.proofs.Pairs.{pair_at, given_same, met_as_made}
 use Rattle.world_model.proofs.Histories.{Grew, grew, newest_taken, history_taken}
@@ -159,6 +159,10 @@ pub are_met : (w : Setting) (states : ℕ → CoreState) (watch : Watch) → Tab
 are_met w states watch stand i s met right there =
     met_as_made (w.keys i) s (sent (place_in w i s) (calls_at w states i s)) (entries_met_at watch.sent.table s i) met (stand.sent i s right) there
 
+-- what the table has of a slot is what the replicas met there
+pub slot_stands : (w : Setting) (states : ℕ → CoreState) (watch : Watch) (s : Slot) (here : Option MetAtSlot) → TablesStand w states watch → here ≡ get slot_cmp watch.sent.table s → SlotStands w states s here
+slot_stands w states watch s here stand is i right = ap (λ o. met_in o i) is ∙ stand.sent i s right
+
 -- ---- columns
 
 -- the row that is expected of an echoer
@@ -168,10 +172,10 @@ expected_at w at echoer s m met many below is =
     ap (λ (x : MetEntries). slice_get x.pairs echoer) is ∙ pair_at (w.keys at) s ((tags_of (w.keys at)).digest m) echoer (omega (arith, below, many))
 
 -- the entries that the table has of an echoer are those that it gave
-listed_at : (w : Setting) (states : ℕ → CoreState) (watch : Watch) (echoer : ℕ) (s : Slot) (echoers : Option MetEntries) → ((w.keys echoer).me ≡ echoer) × ((w.keys echoer).n ≡ w.numbers.n) →
-    TablesStand w states watch → w.is_correct echoer ≡ true → echoers ≡ entries_met_at watch.sent.table s echoer → entries_given echoers ≡ given_by w states echoer s
-listed_at w states watch echoer s echoers own stand right is =
-    ap entries_given (is ∙ stand.sent echoer s right)
+listed_at : (w : Setting) (states : ℕ → CoreState) (echoer : ℕ) (s : Slot) (here : Option MetAtSlot) (echoers : Option MetEntries) → ((w.keys echoer).me ≡ echoer) × ((w.keys echoer).n ≡ w.numbers.n) →
+    SlotStands w states s here → w.is_correct echoer ≡ true → echoers ≡ met_in here echoer → entries_given echoers ≡ given_by w states echoer s
+listed_at w states echoer s here echoers own stand right is =
+    ap entries_given (is ∙ stand echoer right)
     ∙ given_same (w.keys echoer) (place_in w echoer s) (sym own.0) (sym own.1) (sent (place_in w echoer s) (calls_at w states echoer s))
 
 valid_same : (w : Setting) (states : ℕ → CoreState) (at echoer : ℕ) (m : List ℕ) (x : Item) → (w.keys at).me ≡ at → sent (place_in w at x.slot) (calls_at w states at x.slot) ≡ Some m →
@@ -182,14 +186,14 @@ valid_same w states at echoer m x me said =
     ∙ ap (λ o. is_valid_for (place_in w at x.slot) (tags_of (w.keys at)) o x.value echoer) (sym said)
 
 -- what the tables say of an echoer is what the events say
-pub unknown_is : (w : Setting) (states : ℕ → CoreState) (watch : Watch) (at echoer : ℕ) (m : List ℕ) (x : Item) (met : MetEntries) (echoers : Option MetEntries) →
+pub unknown_is : (w : Setting) (states : ℕ → CoreState) (at echoer : ℕ) (m : List ℕ) (x : Item) (here : Option MetAtSlot) (met : MetEntries) (echoers : Option MetEntries) →
     ((w.keys at).me ≡ at) × ((w.keys at).n ≡ w.numbers.n) → ((w.keys echoer).me ≡ echoer) × ((w.keys echoer).n ≡ w.numbers.n) → echoer < w.numbers.n →
-    TablesStand w states watch → w.is_correct echoer ≡ true → echoers ≡ entries_met_at watch.sent.table x.slot echoer →
+    SlotStands w states x.slot here → w.is_correct echoer ≡ true → echoers ≡ met_in here echoer →
     sent (place_in w at x.slot) (calls_at w states at x.slot) ≡ Some m → met ≡ met_with (w.keys at) x.slot ((tags_of (w.keys at)).digest m) → kind_eq x.kind Column ≡ true →
     is_unknown met echoers echoer x.value ≡ is_made_up w states at x echoer
-unknown_is w states watch at echoer m x met echoers own other below stand right found said is column =
+unknown_is w states at echoer m x here met echoers own other below stand right found said is column =
     let row = column_row x.value echoer in
-    ap₂ (λ pair entries. is_expected pair row && not (is_among entries row)) (expected_at w at echoer x.slot m met own.1 below is) (listed_at w states watch echoer x.slot echoers other stand right found)
+    ap₂ (λ pair entries. is_expected pair row && not (is_among entries row)) (expected_at w at echoer x.slot m met own.1 below is) (listed_at w states echoer x.slot here echoers other stand right found)
     ∙ ap (λ v. v && not (is_among (given_by w states echoer x.slot) row)) (valid_same w states at echoer m x own.0 said)
     ∙ ap₂ (λ a b. a && ((b && is_valid_for (place_in w at x.slot) (tags_of (w.keys at)) (sent (place_in w at x.slot) (calls_at w states at x.slot)) x.value echoer)
     && not (is_among (given_by w states echoer x.slot) row))) (sym right) (sym column)
@@ -360,16 +364,16 @@ said_some : (k : KeyRow) (s : Slot) (o : Option (List ℕ)) (met : MetEntries) �
 said_some k s None met e = absurd (cc)
 said_some k s (Some m) met e = record { message = m; said = refl; same = sym (same_Some (met_with k s ((tags_of k).digest m)) met e) }
 
-pub unmet_fair : (w : Setting) (states : ℕ → CoreState) (watch : Watch) (at : ℕ) (x : Item) (found : Option MetEntries) → TablesStand w states watch → w.is_correct at ≡ true →
-    found ≡ entries_met_at watch.sent.table x.slot at → found ≡ None → false ≡ is_forged_item w states at (Some x)
-unmet_fair w states watch at x found stand right is none =
+pub unmet_fair : (w : Setting) (states : ℕ → CoreState) (at : ℕ) (x : Item) (here : Option MetAtSlot) → SlotStands w states x.slot here → w.is_correct at ≡ true → met_in here at ≡ None →
+    false ≡ is_forged_item w states at (Some x)
+unmet_fair w states at x here stand right none =
     sym (unsent_fair w states at x
-    (met_none (w.keys at) x.slot (sent (place_in w at x.slot) (calls_at w states at x.slot)) (sym (stand.sent at x.slot right) ∙ (sym is ∙ none))))
+    (met_none (w.keys at) x.slot (sent (place_in w at x.slot) (calls_at w states at x.slot)) (sym (stand at right) ∙ none)))
 
-pub said_is : (w : Setting) (states : ℕ → CoreState) (watch : Watch) (at : ℕ) (x : Item) (found : Option MetEntries) (met : MetEntries) → TablesStand w states watch → w.is_correct at ≡ true →
-    found ≡ entries_met_at watch.sent.table x.slot at → found ≡ Some met → IsSaid (w.keys at) x.slot (sent (place_in w at x.slot) (calls_at w states at x.slot)) met
-said_is w states watch at x found met stand right is some =
-    said_some (w.keys at) x.slot (sent (place_in w at x.slot) (calls_at w states at x.slot)) met (sym (stand.sent at x.slot right) ∙ (sym is ∙ some))
+pub said_is : (w : Setting) (states : ℕ → CoreState) (at : ℕ) (x : Item) (here : Option MetAtSlot) (met : MetEntries) → SlotStands w states x.slot here → w.is_correct at ≡ true → met_in here at ≡ Some met →
+    IsSaid (w.keys at) x.slot (sent (place_in w at x.slot) (calls_at w states at x.slot)) met
+said_is w states at x here met stand right some =
+    said_some (w.keys at) x.slot (sent (place_in w at x.slot) (calls_at w states at x.slot)) met (sym (stand at right) ∙ some)
 
 pub some_made_up : (w : Setting) (states : ℕ → CoreState) (at : ℕ) (x : Item) (echoer : ℕ) → echoer < w.numbers.n → is_made_up w states at x echoer ≡ true → true ≡ is_forged_item w states at (Some x)
 some_made_up w states at x echoer below made =
@@ -508,27 +512,12 @@ said_there w states c x takes i s true here =
     (ap (λ h. met_for (w.keys c.at) s (sends_in w c.at s h)) (history_after w states c x takes) ∙ said_here w states c x s (is_slot x.slot s) refl)
 said_there w states c x takes i s false other = ap (met_for (w.keys i) s) ((quiet_other w states c i other).sends s)
 
--- one slot at one replica
-at_parts : (s q : Slot) (i j : ℕ) (b : Bool) → is_same_at s i q j ≡ b → (i == j && is_slot s q) ≡ b
-at_parts s q i j true same =
-    let is = same_at s i q j same in
-    ap₂ (λ a b. a && b) (eq-eqb i j is.1) (subst (λ (x : Slot). is_slot s x ≡ true) is.0 (slot_itself s))
-at_parts s q i j false apart = differ (i == j && is_slot s q) refl
-  where
-    differ : (b : Bool) → (i == j && is_slot s q) ≡ b → (i == j && is_slot s q) ≡ false
-    differ false e = e
-    differ true e =
-        let both = and_parts (i == j) (is_slot s q) e in
-        let same : is_same_at s i q j ≡ true =
-        subst (λ (k : ℕ). is_same_at s i q k ≡ true) (eqb-true i j both.0) (subst (λ (x : Slot). is_same_at s i x i ≡ true) (same_slot s q both.1) (at_itself s i)) in
-        absurd (false≢true (sym apart ∙ same))
-
 pub sent_after : (w : Setting) (states : ℕ → CoreState) (c : CallAt) (x : Item) (old new : Watch) (k : KeyRow) → TakesItem w states c x → TablesStand w states old → k ≡ w.keys c.at →
     ((s : Slot) (i : ℕ) → entries_met_at new.sent.table s i ≡ (if is_same_at x.slot c.at s i then option_or (entries_met_at old.sent.table s i) (met_said k x) else entries_met_at old.sent.table s i)) →
     (i : ℕ) (s : Slot) → w.is_correct i ≡ true → entries_met_at new.sent.table s i ≡ met_for (w.keys i) s (sent (place_in w i s) (calls_at w (after_call w states (Some c)) i s))
 sent_after w states c x old new k takes stand keys put i s right =
     put s i
-    ∙ ap₂ (λ b d. if b then option_or d (met_said k x) else d) (sym (at_parts x.slot s c.at i (is_same_at x.slot c.at s i) refl)) (stand.sent i s right)
+    ∙ ap (λ d. if is_same_at x.slot c.at s i then option_or d (met_said k x) else d) (stand.sent i s right)
     ∙ ap (λ (y : KeyRow). if c.at == i && is_slot x.slot s then option_or (met_for (w.keys i) s (sent (place_in w i s) (calls_at w states i s))) (met_said y x)
     else met_for (w.keys i) s (sent (place_in w i s) (calls_at w states i s))) keys
     ∙ sym (said_there w states c x takes i s (c.at == i) refl)
@@ -541,14 +530,14 @@ met_said_is k x met origin kind is =
     ∙ sym (ap₂ (λ a b. if a && kind_eq b Send then Some (met_with k x.slot ((tags_of k).digest x.value)) else None) (eq-eqb x.from x.slot.origin origin) kind)
 
 -- what is added is what the item brings
-pub said_added : (old new : BTreeMap SlotAt MetEntries) (k : KeyRow) (at : ℕ) (x : Item) (met : MetEntries) → x.from ≡ x.slot.origin → x.kind ≡ Send → met ≡ met_with k x.slot ((tags_of k).digest x.value) →
+pub said_added : (old new : BTreeMap Slot MetAtSlot) (k : KeyRow) (at : ℕ) (x : Item) (met : MetEntries) → x.from ≡ x.slot.origin → x.kind ≡ Send → met ≡ met_with k x.slot ((tags_of k).digest x.value) →
     ((s : Slot) (i : ℕ) → entries_met_at new s i ≡ (if is_same_at x.slot at s i then option_or (entries_met_at old s i) (Some met) else entries_met_at old s i)) →
     (s : Slot) (i : ℕ) → entries_met_at new s i ≡ (if is_same_at x.slot at s i then option_or (entries_met_at old s i) (met_said k x) else entries_met_at old s i)
 said_added old new k at x met origin kind is put s i =
     put s i ∙ ap (λ o. if is_same_at x.slot at s i then option_or (entries_met_at old s i) o else entries_met_at old s i) (met_said_is k x met origin kind is)
 
 -- nothing is added where it brings nothing
-pub nothing_said : (table : BTreeMap SlotAt MetEntries) (k : KeyRow) (at : ℕ) (x : Item) → (x.from == x.slot.origin && kind_eq x.kind Send) ≡ false → (s : Slot) (i : ℕ) →
+pub nothing_said : (table : BTreeMap Slot MetAtSlot) (k : KeyRow) (at : ℕ) (x : Item) → (x.from == x.slot.origin && kind_eq x.kind Send) ≡ false → (s : Slot) (i : ℕ) →
     entries_met_at table s i ≡ (if is_same_at x.slot at s i then option_or (entries_met_at table s i) (met_said k x) else entries_met_at table s i)
 nothing_said table k at x none s i =
     stays (is_same_at x.slot at s i) (entries_met_at table s i)

@@ -1,15 +1,15 @@
 -- What a world keeps of the messages that were sent and hashed, and what its tables stand for.
-use Rattle.std.specs.Prelude.{◌≡◌, ℕ, Bool, true, false, List, [], ◌∷◌, ◌++◌, map, Option, Some, None}
+use Rattle.std.specs.Prelude.{◌≡◌, ℕ, Bool, true, false, ◌&&◌, ◌==◌, List, [], ◌∷◌, ◌++◌, map, slice_index_or, Option, Some, None}
 use Rattle.std.specs.declared.cmp.Ordering.{Ordering}
-use Rattle.std.specs.Ordering.{nat_cmp, then_cmp, on}
+use Rattle.std.specs.Ordering.{nat_cmp}
 use Rattle.std.specs.Cmp.Lexicographic.{slice_cmp}
-use Rattle.std.specs.BTreeMap.{BTreeMap, get, get_by, is_at}
+use Rattle.std.specs.BTreeMap.{BTreeMap, get, get_by}
 use Rattle.std.specs.BTreeSet.{contains}
 use Rattle.sha2.specs.Sha256.{sha256}
 use Rattle.ritas_base.specs.declared.slot.Slot.{Slot}
 use Rattle.ritas_base.specs.declared.item.Kind.{Kind}
 use Rattle.ritas_base.specs.declared.item.Kind.TheVariants.{Send}
-use Rattle.ritas_base.specs.SlotOrder.{slot_cmp}
+use Rattle.ritas_base.specs.SlotOrder.{slot_cmp, is_slot}
 use Rattle.ritas_base.specs.History.{replicas}
 use Rattle.layer_api.specs.Runs.{Has}
 use Rattle.layer_api.specs.Entries.{EntryInput, Print, OfMessage, OfEntry}
@@ -18,29 +18,31 @@ use Rattle.keyed_channel.specs.Keyed.{tags_of}
 use Rattle.world_model.specs.World.{Setting}
 use Rattle.world_model.specs.Audit.{clashes, collide}
 use Rattle.world_model.specs.Met.{MetEntries, met_with}
-use Rattle.world_model.specs.declared.met.SlotAt.{SlotAt}
+use Rattle.world_model.specs.declared.met.MetAtSlot.{MetAtSlot}
 use Rattle.world_model.specs.declared.hashed.HashedEntry.{HashedEntry}
 use Rattle.world_model.specs.declared.hashed.Hashed.{Hashed}
 
 -- ---- what was met
 
-abbrev pub at_cmp : SlotAt → SlotAt → Ordering
-at_cmp = then_cmp (on (λ x. x.slot) slot_cmp) (on (λ x. x.replica) nat_cmp)
+-- what a replica met at a slot, by what each met there, if any did
+abbrev pub met_in : Option MetAtSlot → ℕ → Option MetEntries
+met_in None i = None
+met_in (Some here) i = slice_index_or here.places.items i None
 
-abbrev pub entries_met_at : BTreeMap SlotAt MetEntries → Slot → ℕ → Option MetEntries
-entries_met_at table s i = get at_cmp table (record { slot = s; replica = i })
+abbrev pub entries_met_at : BTreeMap Slot MetAtSlot → Slot → ℕ → Option MetEntries
+entries_met_at table s i = met_in (get slot_cmp table s) i
 
 -- what replica i met at a slot, if it is correct and did, is what its keys give
 abbrev pub IsMetAt : Setting → ℕ → Slot → Option MetEntries → Type 0
 IsMetAt w i s found = (met : MetEntries) → w.is_correct i ≡ true → found ≡ Some met → met ≡ met_with (w.keys i) s met.digest
 
 -- so it is of all that the table has
-abbrev pub AreMet : Setting → BTreeMap SlotAt MetEntries → Type 0
+abbrev pub AreMet : Setting → BTreeMap Slot MetAtSlot → Type 0
 AreMet w table = (i : ℕ) (s : Slot) → IsMetAt w i s (entries_met_at table s i)
 
 -- the two are one slot at one replica
 abbrev pub is_same_at : Slot → ℕ → Slot → ℕ → Bool
-is_same_at s i q j = is_at (at_cmp (record { slot = s; replica = i })) (record { slot = q; replica = j })
+is_same_at s i q j = i == j && is_slot s q
 
 -- ---- what was hashed
 

@@ -17,11 +17,12 @@ use Rattle.keyed_channel.specs.Keyed.{tags_of}
 use Rattle.ritas_core.specs.Machine.{CoreState}
 use Rattle.world_model.specs.declared.audit.Audit.{Audit}
 use Rattle.world_model.specs.declared.audit.Audit.TheVariants as audits
+use Rattle.world_model.specs.declared.met.MetAtSlot.{MetAtSlot}
 use Rattle.world_model.specs.declared.watch.Watch.{Watch}
 use Rattle.world_model.specs.World.{Setting, CallAt, after_call}
 use Rattle.world_model.specs.Audit.{is_forged_call, taken_by, calls_at, place_in, is_forged_at, prints_at, collide, broken_by, judged}
 use Rattle.world_model.specs.Met.{MetEntries, met_with, met_for}
-use Rattle.world_model.specs.Hashed.{entries_met_at, is_same_at, HashedStand, prints_by_kind, Meets}
+use Rattle.world_model.specs.Hashed.{met_in, entries_met_at, is_same_at, HashedStand, prints_by_kind, Meets}
 
 -- ---- what a call made a replica take
 
@@ -71,6 +72,10 @@ pub record TablesStand (w : Setting) (states : ℕ → CoreState) (watch : Watch
   pub sent : (i : ℕ) (s : Slot) → w.is_correct i ≡ true
       → entries_met_at watch.sent.table s i ≡ met_for (w.keys i) s (sent (place_in w i s) (calls_at w states i s))
   pub hashed : HashedStand watch.hashed (prints_at w states)
+
+-- this is what each correct replica met at the message that was sent to it at a slot
+abbrev pub SlotStands : Setting → (ℕ → CoreState) → Slot → Option MetAtSlot → Type 0
+SlotStands w states s here = (i : ℕ) → w.is_correct i ≡ true → met_in here i ≡ met_for (w.keys i) s (sent (place_in w i s) (calls_at w states i s))
 
 -- this is the verdict, and the tables are kept up while the premises hold
 pub record WatchStands (w : Setting) (states : ℕ → CoreState) (verdict : Audit) (watch : Watch) : Type 0 where

@@ -8,7 +8,7 @@ ghost use Rattle.ritas_base.specs.declared.slot.Slot.{Slot};
 ghost use Rattle.world_model.specs.World.{Setting};
 ghost use Rattle.world_model.specs.Stands.{SeatsStand};
 ghost use Rattle.world_model.specs.Met.{pair_of, met_with, turned_pair};
-ghost use Rattle.world_model.specs.Hashed.{AreMet, IsMetAt};
+ghost use Rattle.world_model.specs.Hashed.{AreMet, IsMetAt, met_in};
 
 use crate::seats::Seats;
 use keyed_channel::Channel;
@@ -39,17 +39,16 @@ impl Model for Met {
     ghost view = { λ m. record { digest = m.digest; pairs = m.pairs.items } };
 }
 
-/// A slot at a replica.
-#[derive(Clone, Copy, PartialEq, Eq, PartialOrd, Ord)]
-pub(crate) struct SlotAt {
-    pub(crate) slot: Slot,
-    pub(crate) replica: u8,
+/// What each replica met at one slot, by its number, where it did; of numbers past the last place none did.
+#[derive(Drop)]
+pub(crate) struct MetAtSlot {
+    places: Vec<Option<Met>>,
 }
 
 /// What each replica met at the message that it took from the origin, for each slot where it did.
 #[derive(Drop)]
 pub(crate) struct MetSends {
-    table: BTreeMap<SlotAt, Met>,
+    table: BTreeMap<Slot, MetAtSlot>,
 }
 
 // Whether this is the entry that is given in one of these.
@@ -156,22 +155,33 @@ fn known_pair(
     }
 }
 
-// The entries that the replica with these keys and another have of each other, each made once.
+// The entries that the replica with these keys and another have of each other, each made once. The other met this at the slot,
+// if it did.
 fn pair_with(
     seats: &Seats,
-    sent: &MetSends,
+    met: Option<&Met>,
     keys: &Channel,
     slot: Slot,
     digest: &[u8; 32],
     other: u8,
 ) -> EntryPair
     requires { other < 31 }
-    ensures { (w : Setting) → SeatsStand w seats.now → AreMet w sent.now.table → other < w.numbers.n
+    ensures { (w : Setting) → SeatsStand w seats.now → IsMetAt w other slot (option_copied met.entry) → other < w.numbers.n
         → result ≡ pair_of keys.now slot digest.now other }
 {
-    match known_pair(seats, sent.at(slot, other), keys, digest, other) {
+    match known_pair(seats, met, keys, digest, other) {
         Some(pair) => pair,
         None => tagged_pair(keys, &slot, digest, other),
+    }
+}
+
+// What a replica met at a slot, if it did.
+fn met_in(here: Option<&MetAtSlot>, replica: u8) -> Option<&Met>
+    ensures { option_copied result ≡ met_in (option_copied here.entry) replica }
+{
+    match here {
+        Some(here) => here.at(replica),
+        None => None,
     }
 }
 
@@ -188,17 +198,70 @@ pub(crate) fn meet(
         → keys.now.n ≡ w.numbers.n → met ≡ met_with keys.now slot digest) }
 {
     let n = keys.keys().n();
+    let here = sent.of_slot(slot);
     let mut pairs = Vec::with_capacity(alloc, usize::from(n))?;
     for other in 0..n {
-        pairs.push(pair_with(seats, sent, keys, slot, &digest, other))?;
+        let met = met_in(here, other);
+        pairs.push(pair_with(seats, met, keys, slot, &digest, other))?;
     }
     Ok(Met { digest, pairs })
+}
+
+impl MetAtSlot {
+    ghost use Rattle.std.specs.Prelude.{◌≡◌, ℕ, ◌<◌, ◌==◌, length, Some, None, OnOk, if◌then◌else◌};
+    ghost use Rattle.std.specs.Option.{option_copied, option_or};
+    ghost use Rattle.world_model.specs.Hashed.{met_in};
+
+    // None.
+    fn new(alloc: Global) -> MetAtSlot
+        ensures { (i : ℕ) → met_in (Some result) i ≡ None }
+    {
+        MetAtSlot {
+            places: Vec::new(alloc),
+        }
+    }
+
+    /// What a replica met, if it did.
+    pub(crate) fn at(&self, replica: u8) -> Option<&Met>
+        ensures { option_copied result ≡ met_in (Some self.now) replica }
+    {
+        match self.places.get(usize::from(replica)) {
+            Some(place) => place.as_ref(),
+            None => None,
+        }
+    }
+
+    // A replica has a place from now on. What was met stays.
+    fn reach(&mut self, replica: u8) -> Result<(), Mem>
+        ensures place { OnOk result (replica < length self.new.places.items) }
+        ensures same { OnOk result ((i : ℕ) → met_in (Some self.new) i ≡ met_in (Some self.old) i) }
+    {
+        for _ in self.places.len()..usize::from(replica) + 1 {
+            self.places.push(None)?;
+        }
+        Ok(())
+    }
+
+    // What a replica met, where it met nothing yet.
+    fn add(&mut self, replica: u8, met: Met) -> Result<(), Mem>
+        ensures { OnOk result ((i : ℕ) → met_in (Some self.new) i
+            ≡ (if replica == i then option_or (met_in (Some self.old) i) (Some met) else met_in (Some self.old) i)) }
+    {
+        self.reach(replica)?;
+        let place = usize::from(replica);
+        if self.places[place].is_none() {
+            self.places[place] = Some(met);
+        }
+        Ok(())
+    }
 }
 
 impl MetSends {
     ghost use Rattle.std.specs.Prelude.{◌≡◌, ℕ, Some, None, OnOk, if◌then◌else◌};
     ghost use Rattle.std.specs.Option.{option_copied, option_or};
+    ghost use Rattle.std.specs.BTreeMap.{get};
     ghost use Rattle.ritas_base.specs.declared.slot.Slot.{Slot};
+    ghost use Rattle.ritas_base.specs.SlotOrder.{slot_cmp};
     ghost use Rattle.world_model.specs.Hashed.{entries_met_at, is_same_at};
 
     /// None.
@@ -210,21 +273,31 @@ impl MetSends {
         }
     }
 
-    /// What a replica met at a slot, if it did.
-    pub(crate) fn at(&self, slot: Slot, replica: u8) -> Option<&Met>
-        ensures { option_copied result ≡ entries_met_at self.now.table slot replica }
+    /// What was met at a slot, if anything was.
+    pub(crate) fn of_slot(&self, slot: Slot) -> Option<&MetAtSlot>
+        ensures { option_copied result ≡ get slot_cmp self.now.table slot }
     {
-        self.table.get(&SlotAt { slot, replica })
+        self.table.get(&slot)
     }
 
     /// What a replica met at a slot, where it met nothing yet.
-    pub(crate) fn add(&mut self, slot: Slot, replica: u8, met: Met) -> Result<(), Mem>
+    pub(crate) fn add(
+        &mut self,
+        alloc: Global,
+        slot: Slot,
+        replica: u8,
+        met: Met,
+    ) -> Result<(), Mem>
         ensures { OnOk result ((s : Slot) (i : ℕ) → entries_met_at self.new.table s i
             ≡ (if is_same_at slot replica s i then option_or (entries_met_at self.old.table s i) (Some met) else entries_met_at self.old.table s i)) }
     {
-        let at = SlotAt { slot, replica };
-        if !self.table.contains_key(&at) {
-            self.table.insert(at, met)?;
+        match self.table.get_mut(&slot) {
+            Some(here) => here.add(replica, met)?,
+            None => {
+                let mut here = MetAtSlot::new(alloc);
+                here.add(replica, met)?;
+                self.table.insert(slot, here)?;
+            }
         }
         Ok(())
     }

@@ -1,10 +1,19 @@
 //! The audit of a world as its events happen: what broke first, and what is needed to find it.
 
-ghost use Rattle.std.specs.Prelude.{◌≡◌};
+ghost use Rattle.std.specs.Prelude.{◌≡◌, ℕ, ◌<◌, true, List, Some};
+ghost use Rattle.ritas_base.specs.Messages.{kind_eq};
+ghost use Rattle.layer_api.specs.Entries.{sent};
+ghost use Rattle.keyed_channel.specs.Keyed.{tags_of};
+ghost use Rattle.ritas_core.specs.Machine.{CoreState};
+ghost use Rattle.world_model.specs.World.{Setting};
+ghost use Rattle.world_model.specs.Audit.{calls_at, place_in, is_made_up};
+ghost use Rattle.world_model.specs.Met.{met_with};
+ghost use Rattle.world_model.specs.Stands.{SeatsStand};
+ghost use Rattle.world_model.specs.Watch.{SlotStands};
 
 use crate::audit::Audit;
 use crate::hashed::Hashed;
-use crate::met::{Met, MetSends, meet};
+use crate::met::{Met, MetAtSlot, MetSends, meet};
 use crate::rows::is_unknown;
 use crate::seats::Seats;
 use keyed_channel::Channel;
@@ -19,17 +28,29 @@ pub(crate) struct Watch {
     hashed: Hashed,
 }
 
+// Whether a column that a replica takes, which met this, has a valid entry of a correct echoer which hadn't given it, where the
+// replicas met these at its slot.
+fn is_made_up(seats: &Seats, here: &MetAtSlot, met: &Met, at: u8, item: &Item, echoer: u8) -> bool
+    ensures { (w : Setting) (states : ℕ → CoreState) (m : List ℕ) → SeatsStand w seats.now → SlotStands w states item.now.slot (Some here.now)
+        → at < w.numbers.n → echoer < w.numbers.n
+        → sent (place_in w at item.now.slot) (calls_at w states at item.now.slot) ≡ Some m
+        → met.now ≡ met_with (w.keys at) item.now.slot ((tags_of (w.keys at)).digest m)
+        → kind_eq item.now.kind Kind.Column ≡ true → result ≡ is_made_up w states at item.now echoer }
+{
+    if !seats.correct.has(echoer) {
+        return false;
+    }
+    is_unknown(met, at, here.at(echoer), echoer, item.value.as_slice())
+}
+
 impl Watch {
     ghost use Rattle.std.specs.Prelude.{◌≡◌, ℕ, ◌<◌, true, false, List, [], Option, Some, None, OnOk, OnErr, IfOk, is_some};
     ghost use Rattle.std.specs.Option.{option_copied};
     ghost use Rattle.ritas_base.specs.declared.slot.Slot.{Slot};
     ghost use Rattle.ritas_base.specs.Messages.{kind_eq};
-    ghost use Rattle.layer_api.specs.Entries.{sent};
-    ghost use Rattle.keyed_channel.specs.Keyed.{tags_of};
     ghost use Rattle.ritas_core.specs.Machine.{CoreState};
     ghost use Rattle.world_model.specs.World.{Setting, CallAt, after_call};
-    ghost use Rattle.world_model.specs.Audit.{calls_at, place_in, is_made_up, is_forged_item};
-    ghost use Rattle.world_model.specs.Met.{met_with};
+    ghost use Rattle.world_model.specs.Audit.{is_forged_item};
     ghost use Rattle.world_model.specs.Hashed.{entries_met_at, HashedStand};
     ghost use Rattle.world_model.specs.Stands.{SeatsStand};
     ghost use Rattle.world_model.specs.Watch.{TablesStand, MeetsItem, IsTold, WatchStands, verdict_after};
@@ -54,32 +75,20 @@ impl Watch {
         self.verdict
     }
 
-    // Whether a column that a replica takes, which met this, has a valid entry of a correct echoer which hadn't given it.
-    fn is_made_up(&self, seats: &Seats, met: &Met, at: u8, item: &Item, echoer: u8) -> bool
-        ensures { (w : Setting) (states : ℕ → CoreState) (m : List ℕ) → SeatsStand w seats.now → TablesStand w states self.now
-            → at < w.numbers.n → echoer < w.numbers.n
-            → sent (place_in w at item.now.slot) (calls_at w states at item.now.slot) ≡ Some m
-            → met.now ≡ met_with (w.keys at) item.now.slot ((tags_of (w.keys at)).digest m)
-            → kind_eq item.now.kind Kind.Column ≡ true → result ≡ is_made_up w states at item.now echoer }
-    {
-        if !seats.correct.has(echoer) {
-            return false;
-        }
-        let echoers = self.sent.at(item.slot, echoer);
-        is_unknown(met, at, echoers, echoer, item.value.as_slice())
-    }
-
     // Whether a column that a replica takes forges.
     fn forges(&self, seats: &Seats, at: u8, item: &Item) -> bool
         ensures { (w : Setting) (states : ℕ → CoreState) → SeatsStand w seats.now → TablesStand w states self.now
             → w.is_correct at ≡ true → at < w.numbers.n → kind_eq item.now.kind Kind.Column ≡ true
             → result ≡ is_forged_item w states at (Some item.now) }
     {
-        let Some(met) = self.sent.at(item.slot, at) else {
+        let Some(here) = self.sent.of_slot(item.slot) else {
+            return false;
+        };
+        let Some(met) = here.at(at) else {
             return false;
         };
         for echoer in 0..seats.params.n() {
-            if self.is_made_up(seats, met, at, item, echoer) {
+            if is_made_up(seats, here, met, at, item, echoer) {
                 return true;
             }
         }
@@ -108,7 +117,7 @@ impl Watch {
             return Ok(true);
         }
         if item.from == item.slot.origin {
-            self.sent.add(item.slot, at, met)?;
+            self.sent.add(alloc, item.slot, at, met)?;
         }
         Ok(false)
     }
