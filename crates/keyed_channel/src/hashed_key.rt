@@ -10,6 +10,9 @@ use ritas_base::Slot;
 use sha2::{Digest, Sha256};
 use std::marker::Model;
 
+// One kind, the session, a slot, two replicas and a digest.
+const ENTRY_TEXT_LEN: usize = 1 + 8 + 9 + 2 + 32;
+
 // A key whose two pads have been hashed, so that a tag costs the hashing of the text and of the inner digest alone.
 // Contracts see it as the key.
 #[derive(Drop)]
@@ -31,23 +34,24 @@ impl Model for HashedKey {
     ghost invariant = { λ k. Holds256 k.inner (pad 0x36 k.key) × Holds256 k.outer (pad 0x5c k.key) };
 }
 
-// The hasher, when it has taken what is tagged for an entry.
+// What is tagged for an entry.
 fn entry_text(
-    hasher: Sha256,
     session: u64,
     slot: &Slot,
     echoer: u8,
     verifier: u8,
     d: &[u8; 32],
-) -> Sha256
-    ensures { (taken : List ℕ) → Holds256 hasher taken → Holds256 result (taken ++ entry_string session slot.now echoer verifier d.now) }
+) -> [u8; ENTRY_TEXT_LEN]
+    ensures { result ≡ entry_string session slot.now echoer verifier d.now }
 {
-    hasher
-        .chain_update([0x45])
-        .chain_update(session.to_be_bytes())
-        .chain_update(slot.bytes())
-        .chain_update([echoer, verifier])
-        .chain_update(d)
+    let mut text = [0; ENTRY_TEXT_LEN];
+    text[0] = 0x45;
+    text[1..9].copy_from_slice(&session.to_be_bytes());
+    text[9..18].copy_from_slice(&slot.bytes());
+    text[18] = echoer;
+    text[19] = verifier;
+    text[20..].copy_from_slice(d);
+    text
 }
 
 impl HashedKey {
@@ -82,10 +86,6 @@ impl HashedKey {
     ) -> [u8; 32]
         ensures { result ≡ keyed_entry self.now session slot.now echoer verifier d.now }
     {
-        let inner = self.inner.clone().unwrap();
-        finished(
-            entry_text(inner, session, slot, echoer, verifier, d),
-            self.outer.clone().unwrap(),
-        )
+        self.tag(&entry_text(session, slot, echoer, verifier, d))
     }
 }
