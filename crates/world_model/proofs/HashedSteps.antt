@@ -316,14 +316,12 @@ input_cond : (b : Bool) (x : HashedEntry) (o : Option HashedEntry) → input_in 
 input_cond true x o = refl
 input_cond false x o = refl
 
-module _ (h n : Hashed) (x : EntryInput) (d : List ℕ) (none : entry_input_at h d ≡ None) (same : (v : List ℕ) → digest_at n v ≡ digest_at h v)
+module _ (h n : Hashed) (x : EntryInput) (d : List ℕ) (none_else : (y : EntryInput) → entry_input_at h d ≡ Some y → y ≡ x) (same : (v : List ℕ) → digest_at n v ≡ digest_at h v)
     (same_digests : (e : List ℕ) → has_digest n e ≡ has_digest h e)
     (put : (e : List ℕ) → entry_input_at n e ≡ cond (is_at (image_cmp d) e) (Some x) (entry_input_at h e)) where
   entry_kept : (y : EntryInput) (e : List ℕ) (b : Bool) → is_at (image_cmp d) e ≡ b → entry_input_at n e ≡ cond b (Some x) (entry_input_at h e) → entry_input_at h e ≡ Some y → entry_input_at n e ≡ Some y
   entry_kept y e true here now there =
-      let image = one_image d e here in
-      let missing : None ≡ Some y = sym none ∙ (ap (entry_input_at h) image ∙ there) in
-      absurd (cc)
+      now ∙ ap (λ (z : EntryInput). Some z) (sym (none_else y (ap (entry_input_at h) (one_image d e here) ∙ there)))
   entry_kept y e false here now there = now ∙ there
 
   entry_new : (prints : List Print) → HashedStand h prints → (y : EntryInput) (e : List ℕ) (b : Bool) → is_at (image_cmp d) e ≡ b → entry_input_at n e ≡ cond b (Some x) (entry_input_at h e) → entry_input_at n e ≡ Some y →
@@ -352,8 +350,25 @@ module _ (h n : Hashed) (x : EntryInput) (d : List ℕ) (none : entry_input_at h
     no_other_entry = λ y e is. entry_new prints stand y e (is_at (image_cmp d) e) refl (put e) is;
   }
 
-pub input_put : (h n : Hashed) (input : HashedEntry) (d : List ℕ) → get image_cmp h.entries d ≡ None → ((v : List ℕ) → digest_at n v ≡ digest_at h v) → ((e : List ℕ) → has_digest n e ≡ has_digest h e) →
+-- what the entry is of already, if it is of anything
+of_this : (input : HashedEntry) (o : Option HashedEntry) → ((z : HashedEntry) → o ≡ Some z → z ≡ input) → (y : EntryInput) → input_in o ≡ Some y → y ≡ input_of input
+of_this input None only y is = absurd (cc)
+of_this input (Some z) only y is = sym (same_Some _ _ is) ∙ ap input_of (only z refl)
+
+pub input_put : (h n : Hashed) (input : HashedEntry) (d : List ℕ) → ((z : HashedEntry) → get image_cmp h.entries d ≡ Some z → z ≡ input) → ((v : List ℕ) → digest_at n v ≡ digest_at h v) → ((e : List ℕ) → has_digest n e ≡ has_digest h e) →
     ((e : List ℕ) → get image_cmp n.entries e ≡ cond (is_at (image_cmp d) e) (Some input) (get image_cmp h.entries e)) →
     (prints : List Print) → HashedStand h prints → HashedStand n (OfEntry (input_of input) d ∷ prints)
-input_put h n input d none same same_digests put =
-    entry_put h n (input_of input) d (ap input_in none) same same_digests (λ e. ap input_in (put e) ∙ input_cond (is_at (image_cmp d) e) input (get image_cmp h.entries e))
+input_put h n input d only same same_digests put =
+    entry_put h n (input_of input) d (of_this input (get image_cmp h.entries d) only) same same_digests (λ e. ap input_in (put e) ∙ input_cond (is_at (image_cmp d) e) input (get image_cmp h.entries e))
+
+pub never_there : (o : Option HashedEntry) (input : HashedEntry) → None ≡ o → (z : HashedEntry) → o ≡ Some z → z ≡ input
+never_there o input none z is = let clash : None ≡ Some z = none ∙ is in absurd (cc)
+
+-- an entry that was there is of this from now on
+pub input_again : (h n : Hashed) (input : HashedEntry) (d : List ℕ) (other : HashedEntry) (clash : Bool) → Some other ≡ get image_cmp h.entries d →
+    (clash ≡ false → other ≡ input) → (clash ≡ true → other ≡ input → ⊥) → ((v : List ℕ) → digest_at n v ≡ digest_at h v) → ((e : List ℕ) → has_digest n e ≡ has_digest h e) →
+    ((e : List ℕ) → get image_cmp n.entries e ≡ cond (is_at (image_cmp d) e) (Some input) (get image_cmp h.entries e)) →
+    (prints : List Print) → HashedStand h prints → Adds n (OfEntry (input_of input) d) prints clash
+input_again h n input d other false found match apart same same_digests put prints stand =
+    input_put h n input d (λ z e. sym (same_Some _ _ (found ∙ e)) ∙ match refl) same same_digests put prints stand
+input_again h n input d other true found match apart same same_digests put prints stand = entry_found h input d other true (sym found) match apart prints stand

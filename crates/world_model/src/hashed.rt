@@ -92,11 +92,10 @@ impl Hashed {
         ensures { IfOk result (λ clash. (prints : List Print) → HashedStand self.old prints
             → Adds self.new (OfEntry (input_of input) entry) prints clash) }
     {
-        if let Some(other) = self.entries.get(&entry) {
-            return Ok(differ(other, &input));
+        match self.entries.insert(entry, input)? {
+            Some(other) => Ok(differ(&other, &input)),
+            None => Ok(false),
         }
-        self.entries.insert(entry, input)?;
-        Ok(false)
     }
 
     // The entries that the replica of this number and another have of each other. Whether one is of something else too.
