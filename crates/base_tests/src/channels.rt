@@ -1,10 +1,11 @@
 //! Tests of `keyed_channel`: a channel in both versions, with the states of its keys, against the calls that take the keys alone.
 
 use crate::dealt::{ABC, ENTRY, FRAME, FRAME_2, SLOT, dealt};
-use keyed_channel::{Channel, OpenFault, Opened};
-use ritas_base::{Bytes, FrameVersion, Mem, Tagger};
+use keyed_channel::{Channel, Keys, LazyFrame, OpenFault, Opened};
+use ritas_base::{Bytes, FrameVersion, Mem, Params, Tagger};
 use std::alloc::Global;
 use std::process::Abort;
+use std::rc::Rc;
 use std::test::Fail;
 
 // The channel of replica me of 4.
@@ -37,9 +38,6 @@ fn is_opened(opened: &Opened) -> bool {
 fn a_channel_opens(rt: HostRuntime) -> Result<(), Fail> {
     let receiver = channel(&rt, rt.alloc(), 1, FrameVersion::One)?;
     assert!(rt; is_opened(&receiver.open(FRAME)?));
-    let sender = channel(&rt, rt.alloc(), 3, FrameVersion::One)?;
-    let shared = receiver.open_shared(&sender, FRAME);
-    assert!(rt; shared.is_some_and(|opened: Opened| is_opened(&opened)));
     Ok(())
 }
 
@@ -93,12 +91,57 @@ fn a_channel_of_version_2(rt: HostRuntime) -> Result<(), Fail> {
     Ok(())
 }
 
+// The same frame as `sealed`, with this body, whose tag isn't computed yet.
+fn lazily(
+    rt: &impl Abort,
+    alloc: Global,
+    version: FrameVersion,
+    body: &[u8],
+) -> Result<LazyFrame, Mem> {
+    let sender = channel(rt, alloc, 3, version)?;
+    assert!(rt; 1 < sender.keys().n());
+    let body = Rc::new(alloc, Bytes::from_slice(alloc, body)?)?;
+    sender.seal_lazily(1, 258, &body)
+}
+
 #[test]
-fn shared_in_version_2(rt: HostRuntime) -> Result<(), Fail> {
-    let sender = channel(&rt, rt.alloc(), 3, FrameVersion::Two)?;
-    let old = channel(&rt, rt.alloc(), 1, FrameVersion::One)?;
-    let receiver = channel(&rt, rt.alloc(), 1, FrameVersion::Two)?;
-    assert!(rt; receiver.open_shared(&sender, FRAME_2).is_some());
-    assert!(rt; old.open_shared(&sender, FRAME_2).is_none());
+fn a_lazy_frame(rt: HostRuntime) -> Result<(), Fail> {
+    for (version, bytes, other) in [
+        (FrameVersion::One, FRAME, FRAME_2),
+        (FrameVersion::Two, FRAME_2, FRAME),
+    ] {
+        let frame = lazily(&rt, rt.alloc(), version, b"\xaa\xbb")?;
+        let made = frame.to_bytes(rt.alloc())?;
+        assert_eq!(rt; made.as_slice(), bytes);
+        assert!(rt; frame.is(bytes));
+        assert!(rt; !frame.is(other));
+        assert!(rt; !frame.is(b""));
+        let parts = frame.parts();
+        assert_eq!(rt; (parts.from, parts.seq), (3, 258));
+        assert_eq!(rt; parts.body, b"\xaa\xbb".as_slice());
+    }
+    Ok(())
+}
+
+// What a lazy frame of replica 3 for 1 in version 1 answers where it doesn't open, by the receiver and the length of the body.
+#[test]
+fn lazy_frames_that_open_or_not(rt: HostRuntime) -> Result<(), Fail> {
+    let frame = lazily(&rt, rt.alloc(), FrameVersion::One, b"\xaa\xbb")?;
+    let long = lazily(&rt, rt.alloc(), FrameVersion::One, &[0; 16_342])?;
+    let receiver = channel(&rt, rt.alloc(), 1, FrameVersion::One)?;
+    assert!(rt; is_opened(&receiver.open_lazily(&frame)?));
+    let p = Params::new(4, 1)?;
+    let stranger = Channel::new(rt.alloc(), Keys::deal(&[9; 32], 258, &p, 1))?;
+    let newer = channel(&rt, rt.alloc(), 1, FrameVersion::Two)?;
+    let another = channel(&rt, rt.alloc(), 0, FrameVersion::One)?;
+    for (channel, frame, wanted) in [
+        (&receiver, &long, OpenFault::Long),
+        (&newer, &frame, OpenFault::Version),
+        (&another, &frame, OpenFault::NotMine),
+        (&stranger, &frame, OpenFault::BadTag),
+    ] {
+        let opened = channel.open_lazily(frame);
+        assert!(rt; opened.is_err_and(|fault| fault == wanted));
+    }
     Ok(())
 }

@@ -8,8 +8,7 @@ use Rattle.std.proofs.lemmas.List.{take-append-drop, length-take, length-drop, g
 use Rattle.std.proofs.lemmas.Nat.{be_bytes_8}
 use Rattle.std.proofs.lemmas.Bool.Decides.{leb_tells}
 use Rattle.std.proofs.lemmas.Slice.Eq.{bytes_eq-Decides}
-use Rattle.ritas_base.specs.Limits.{longest_frame}
-use Rattle.keyed_channel.specs.Lengths.{tag_length, frame_overhead, least_frame}
+use Rattle.keyed_channel.specs.Lengths.{tag_length, frame_overhead}
 use Rattle.keyed_channel.specs.Hmac.{hmac_of}
 use Rattle.keyed_channel.specs.KeyRow.{key_with}
 use Rattle.keyed_channel.specs.Keyed.{dealt_for}

@@ -2,7 +2,7 @@
 use Rattle.std.specs.Prelude.{◌≡◌, ℕ, ◌+◌, ◌-◌, ◌<◌, ◌≤◌, List, [], ◌∷◌, ◌++◌, length, map, drop, replicate}
 use Rattle.std.specs.List.{range_with_len}
 use Rattle.std.proofs.Common.{sym, ◌∙◌, ap, subst, arith, suc, append_assoc}
-use Rattle.std.proofs.Math.ListN.{set, take, get_or}
+use Rattle.std.proofs.Math.ListN.{set, take, get_or, get_or-map}
 use Rattle.std.proofs.Math.Seq.{drop-append_seam}
 use Rattle.std.proofs.lemmas.List.{length-append, length-replicate, set-append_right, get_or-take, get_or_read}
 use Rattle.std.proofs.lemmas.List.FromFn.{length-map-range_with_len, map-range_with_len_more}
@@ -50,3 +50,9 @@ pub key_read : (row keys : List (List ℕ)) (n j : ℕ) (x : List ℕ) → keys 
     → x ≡ get_or row j zero_key
 key_read row keys n j x front lt within read =
     get_or_read row j x (omega arith) (read ∙ ap (λ l. get_or l j x) front ∙ get_or-take n row j x lt) zero_key
+
+-- the same of a list whose values are the first n of the row
+pub key_hashed : {X : Type 0} (value : X → List ℕ) (row : List (List ℕ)) (hashed : List X) (n j : ℕ) (x : X) → map value hashed ≡ take n row → j < n → n ≤ length row
+    → x ≡ get_or hashed j x → value x ≡ get_or row j zero_key
+key_hashed value row hashed n j x front lt within read =
+    key_read row (map value hashed) n j (value x) front lt within (ap value read ∙ sym (get_or-map value hashed j x))

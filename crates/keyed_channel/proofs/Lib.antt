@@ -4,6 +4,6 @@ mod Opens
 mod Dealt
 mod Sealing
 mod FromSender
-mod Shared
+mod Lazily
 mod Noting
 mod NotedBySender

@@ -25,7 +25,7 @@ pub length-hmac_of : (key text : List ℕ) → length (hmac_of key text) ≡ tag
 unfolding hmac_of
 length-hmac_of key text = length-sha256 (pad 0x5c key ++ sha256 (pad 0x36 key ++ text))
 
-length-front : (version : FrameVersion) (from to seq : ℕ) (body : List ℕ) → length (frame_front version from to seq body) ≡ length body + head_length
+pub length-front : (version : FrameVersion) (from to seq : ℕ) (body : List ℕ) → length (frame_front version from to seq body) ≡ length body + head_length
 length-front version from to seq body = omega arith
 
 pub sealed_length_holds : SealedLength
@@ -45,7 +45,7 @@ tag_is front tag long =
     let at : length (front ++ tag) - tag_length ≡ length front = omega (arith, length-append front tag) in
     ap (λ k. drop k (front ++ tag)) at ∙ drop-append_seam front tag
 
-parts_are : (version : FrameVersion) (from to seq : ℕ) (body tag : List ℕ) → seq < 2 ^ 64 → length tag ≡ tag_length
+pub parts_are : (version : FrameVersion) (from to seq : ℕ) (body tag : List ℕ) → seq < 2 ^ 64 → length tag ≡ tag_length
     → opening_parts (frame_front version from to seq body ++ tag) ≡ record { from = from; seq = seq; body = body }
 parts_are version from to seq body tag small long =
     let bytes = frame_front version from to seq body ++ tag in

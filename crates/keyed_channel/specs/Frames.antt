@@ -18,9 +18,13 @@ use Rattle.ritas_base.specs.Places.{first_failed}
 abbrev pub frame_front : FrameVersion → ℕ → ℕ → ℕ → List ℕ → List ℕ
 frame_front version from to seq body = version_byte version ∷ from ∷ to ∷ to_be_bytes w64 seq ++ body
 
--- the frame: its front, and the front's tag under the key of sender and receiver
+-- a front with its tag under a key
+abbrev pub with_tag : List ℕ → List ℕ → List ℕ
+with_tag key front = front ++ hmac_of key front
+
+-- the frame: its front, with the front's tag under the key of sender and receiver
 abbrev pub sealed : KeyRow → ℕ → ℕ → List ℕ → List ℕ
-sealed k to seq body = frame_front k.version k.me to seq body ++ hmac_of (key_with k to) (frame_front k.version k.me to seq body)
+sealed k to seq body = with_tag (key_with k to) (frame_front k.version k.me to seq body)
 
 -- ---- the parts of a frame
 
@@ -60,15 +64,18 @@ opening_parts bytes = record { from = sender_of bytes; seq = seq_of bytes; body 
 abbrev pub is_peer : KeyRow → ℕ → Bool
 is_peer k j = nat_lt j k.n && not (j == k.me)
 
--- the tests that need no key, each with the fault where it fails
-abbrev pub plain_tests : KeyRow → List ℕ → List (Bool × OpenFault)
-plain_tests k bytes =
-    (nat_le least_frame (length bytes), faults.Short)
-    ∷ (nat_le (length bytes) longest_frame, faults.Long)
-    ∷ (version_of bytes == version_byte k.version, faults.Version)
-    ∷ (receiver_of bytes == k.me, faults.NotMine)
-    ∷ (is_peer k (sender_of bytes), faults.NoSuchReplica)
+-- the tests that need no key, each with the fault where it fails: of the length, and of the version, the sender and the receiver that it names
+abbrev pub parts_tests : KeyRow → ℕ → ℕ → ℕ → ℕ → List (Bool × OpenFault)
+parts_tests k long version from to =
+    (nat_le least_frame long, faults.Short)
+    ∷ (nat_le long longest_frame, faults.Long)
+    ∷ (version == version_byte k.version, faults.Version)
+    ∷ (to == k.me, faults.NotMine)
+    ∷ (is_peer k from, faults.NoSuchReplica)
     ∷ []
+
+abbrev pub plain_tests : KeyRow → List ℕ → List (Bool × OpenFault)
+plain_tests k bytes = parts_tests k (length bytes) (version_of bytes) (sender_of bytes) (receiver_of bytes)
 
 -- whether the tag is that of the front, under the key shared with the sender
 abbrev pub is_tagged : KeyRow → List ℕ → Bool

@@ -1,40 +1,43 @@
 //! A channel: one replica's keys, made ready once, which seal and open as the keys alone do.
 
 ghost use Rattle.sha2.proofs.Facts256.{length-sha256};
-ghost use Rattle.std.specs.Prelude.{◌≡◌, ℕ, ◌<◌, true, false, List, Option, None, IfOk, IsErr, MatchOption, MatchResult, Ok, Err};
+ghost use Rattle.std.specs.Prelude.{◌≡◌, ℕ, ◌<◌, IfOk, MatchResult, Ok, Err};
 ghost use Rattle.keyed_channel.specs.Hmac.{hmac_of};
 ghost use Rattle.keyed_channel.specs.KeyRow.{key_with, shares_key};
 ghost use Rattle.keyed_channel.specs.Keyed.{keyed_entry, tags_of};
-ghost use Rattle.keyed_channel.specs.Frames.{sealed, opening};
+ghost use Rattle.keyed_channel.specs.Frames.{sealed, opening, sender_of, is_tagged};
 ghost use Rattle.keyed_channel.specs.Notes.{sealed_note, ack_note, again_note, noted};
 
 use crate::frame::{OpenFault, Opened, as_opened, check, front, tagged};
 use crate::hashed_key::HashedKey;
 use crate::keys::Keys;
+use crate::lazy::LazyFrame;
 use crate::lengths::{NOTE_LEN, TAG_LEN};
 use crate::note::{Note, is_plain_note, note_front, note_of, tagged_note};
+use crate::parts::FrameParts;
 use crate::tags::digest;
 use ritas_base::{Bytes, Mem, Slot, Tagger};
 use std::alloc::Global;
 use std::marker::Model;
+use std::rc::Rc;
 
 /// The keys of one replica, with the pads of each key hashed once. It seals and opens as `seal` and `open_frame` do
 /// with those keys, in about half of their time for a short frame, and as a tagger it answers as they do.
 #[derive(Drop)]
 pub struct Channel {
     keys: Keys,
-    hashed: Vec<HashedKey>,
+    hashed: Vec<Rc<HashedKey, Global>>,
 }
 
 impl Model for Channel {
-    ghost use Rattle.std.specs.Prelude.{◌≡◌, take};
+    ghost use Rattle.std.specs.Prelude.{◌≡◌, map, take};
     ghost use Rattle.keyed_channel.specs.KeyRow.{KeyRow, IsKeyRow};
 
     ghost Value = { KeyRow };
 
     ghost view = { λ c. c.keys };
 
-    ghost invariant = { λ c. (c.hashed.items ≡ take c.keys.n c.keys.row) × IsKeyRow c.keys };
+    ghost invariant = { λ c. (map (λ key. key.value) c.hashed.items ≡ take c.keys.n c.keys.row) × IsKeyRow c.keys };
 }
 
 impl Channel {
@@ -45,7 +48,7 @@ impl Channel {
         let n = keys.n();
         let mut hashed = Vec::with_capacity(alloc, n as usize)?;
         for j in 0..n {
-            hashed.push(HashedKey::new(keys.key(j)))?;
+            hashed.push(Rc::new(alloc, HashedKey::new(keys.key(j)))?)?;
         }
         Ok(Channel { keys, hashed })
     }
@@ -83,6 +86,22 @@ impl Channel {
         tagged(front, &tag)
     }
 
+    /// The same frame, whose tag is computed once its bytes are asked for. It shares the body. The one error is want of memory, where too
+    /// many share one already.
+    pub fn seal_lazily(&self, to: u8, seq: u64, body: &Rc<Bytes, Global>) -> Result<LazyFrame, Mem>
+        requires { to < self.now.n }
+        ensures { IfOk result (λ frame. frame ≡ sealed self.now to seq body.now.value) }
+    {
+        Ok(LazyFrame::new(
+            self.keys.version(),
+            self.keys.me(),
+            to,
+            seq,
+            body.clone()?,
+            self.hashed[to as usize].clone()?,
+        ))
+    }
+
     /// Opens a frame, as `open_frame` does. It takes no memory.
     pub fn open<'a>(&self, bytes: &'a [u8]) -> Result<Opened<'a>, OpenFault>
         ensures { MatchResult result
@@ -96,6 +115,30 @@ impl Channel {
             return Err(OpenFault::BadTag);
         }
         Ok(as_opened(bytes))
+    }
+
+    // Whether the tag of a frame is right. It is computed only where the frame wasn't made with the key that is shared with its sender.
+    fn is_tagged(&self, frame: &LazyFrame) -> bool
+        requires { sender_of frame.now < self.now.n }
+        ensures { result ≡ is_tagged self.now frame.now }
+    {
+        let key = &self.hashed[frame.parts().from as usize];
+        frame.has_key(key) || frame.tag_under(key) == frame.tag()
+    }
+
+    /// Opens a frame that a channel made, as `open` does with its bytes. No tag is computed where that channel shares its key. It takes
+    /// no memory.
+    pub fn open_lazily<'a>(&self, frame: &'a LazyFrame) -> Result<Opened<'a>, OpenFault>
+        ensures { MatchResult result
+            (λ o. opening self.now frame.now ≡ Ok (record { from = o.from; seq = o.seq; body = o.body.now }))
+            (λ fault. opening self.now frame.now ≡ Err fault) }
+    {
+        frame.check(&self.keys)?;
+        if !self.is_tagged(frame) {
+            return Err(OpenFault::BadTag);
+        }
+        let FrameParts { from, seq, body } = frame.parts();
+        Ok(Opened { from, seq, body })
     }
 
     // A note of a form and a number.
@@ -137,24 +180,6 @@ impl Channel {
             return None;
         }
         note_of(bytes)
-    }
-
-    /// What a frame opens to that the sender sealed, where the two share their key: then its tag is right, and isn't
-    /// computed. `None` where they don't share it, or the frame doesn't open. Of bytes that the sender didn't seal nothing
-    /// is said. It takes no memory.
-    pub fn open_shared<'a>(&self, sender: &Channel, bytes: &'a [u8]) -> Option<Opened<'a>>
-        ensures opens { (to seq : ℕ) (body : List ℕ) → bytes.now ≡ sealed sender.now to seq body → MatchOption result
-            (shares_key self.now sender.now ≡ true → IsErr (opening self.now bytes.now))
-            (λ o. opening self.now bytes.now ≡ Ok (record { from = o.from; seq = o.seq; body = o.body.now })) }
-        ensures apart { shares_key self.now sender.now ≡ false → result ≡ None }
-    {
-        if !self.shares_key(sender) {
-            return None;
-        }
-        match check(&self.keys, bytes) {
-            Ok(()) => Some(as_opened(bytes)),
-            Err(_) => None,
-        }
     }
 }
 

@@ -3,7 +3,8 @@
 ghost use Rattle.std.specs.Prelude.{◌≡◌, ◌<◌, ◌≤◌, ◌++◌, length, IfOk, OnOk, MatchResult, Ok, Err, Some, None};
 ghost use Rattle.keyed_channel.specs.Lengths.{frame_overhead, least_frame};
 ghost use Rattle.ritas_base.specs.Bytes.{version_byte};
-ghost use Rattle.keyed_channel.specs.Frames.{sealed, frame_front, opening, plain_fault, opening_parts, sender_of};
+ghost use Rattle.ritas_base.specs.Places.{first_failed};
+ghost use Rattle.keyed_channel.specs.Frames.{sealed, frame_front, opening, plain_fault, parts_tests, opening_parts, sender_of};
 
 use crate::keys::Keys;
 use crate::lengths::{FRAME_OVERHEAD, LEAST_FRAME, TAG_LEN};
@@ -88,6 +89,37 @@ pub fn seal(alloc: Global, keys: &Keys, to: u8, seq: u64, body: &[u8]) -> Result
     tagged(front, &tag)
 }
 
+// The first fault that shows without a key: by the frame's length, and the version, sender and receiver that it names.
+pub(crate) fn check_parts(
+    keys: &Keys,
+    length: usize,
+    version: u8,
+    from: u8,
+    to: u8,
+) -> Result<(), OpenFault>
+    ensures fault { MatchResult result
+        (λ _. first_failed (parts_tests keys.now length version from to) ≡ None)
+        (λ fault. first_failed (parts_tests keys.now length version from to) ≡ Some fault) }
+    ensures sender { OnOk result ((from < keys.now.n) × (keys.now.n ≤ 31)) }
+{
+    if length < LEAST_FRAME {
+        return Err(OpenFault::Short);
+    }
+    if length > LONGEST_FRAME {
+        return Err(OpenFault::Long);
+    }
+    if version != version_byte(keys.version()) {
+        return Err(OpenFault::Version);
+    }
+    if to != keys.me() {
+        return Err(OpenFault::NotMine);
+    }
+    if from >= keys.n() || from == keys.me() {
+        return Err(OpenFault::NoSuchReplica);
+    }
+    Ok(())
+}
+
 // The first fault that shows without a key.
 pub(crate) fn check(keys: &Keys, bytes: &[u8]) -> Result<(), OpenFault>
     ensures fault { MatchResult result
@@ -99,19 +131,7 @@ pub(crate) fn check(keys: &Keys, bytes: &[u8]) -> Result<(), OpenFault>
     if bytes.len() < LEAST_FRAME {
         return Err(OpenFault::Short);
     }
-    if bytes.len() > LONGEST_FRAME {
-        return Err(OpenFault::Long);
-    }
-    if bytes[0] != version_byte(keys.version()) {
-        return Err(OpenFault::Version);
-    }
-    if bytes[2] != keys.me() {
-        return Err(OpenFault::NotMine);
-    }
-    if bytes[1] >= keys.n() || bytes[1] == keys.me() {
-        return Err(OpenFault::NoSuchReplica);
-    }
-    Ok(())
+    check_parts(keys, bytes.len(), bytes[0], bytes[1], bytes[2])
 }
 
 // What a frame says that passed all tests.

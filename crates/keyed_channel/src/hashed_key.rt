@@ -3,6 +3,7 @@
 ghost use Rattle.std.specs.Prelude.{◌≡◌, ℕ, List, ◌++◌};
 ghost use Rattle.keyed_channel.specs.Hmac.{hmac_of};
 ghost use Rattle.keyed_channel.specs.Keyed.{keyed_entry, entry_string};
+ghost use Rattle.std.specs.Str.{bytes_eq};
 ghost use Rattle.sha2.specs.Hashers.{Holds256};
 
 use crate::tags::{finished, inner, outer};
@@ -73,6 +74,24 @@ impl HashedKey {
         let mut inner = self.inner.clone().unwrap();
         inner.update(text);
         finished(inner, self.outer.clone().unwrap())
+    }
+
+    // The tag of a text that stands in two parts.
+    pub(crate) fn tag_of_two(&self, first: &[u8], rest: &[u8]) -> [u8; 32]
+        ensures { result ≡ hmac_of self.now (first.now ++ rest.now) }
+    {
+        let inner = self.inner.clone().unwrap();
+        finished(
+            inner.chain_update(first).chain_update(rest),
+            self.outer.clone().unwrap(),
+        )
+    }
+
+    // Whether it is the same key.
+    pub(crate) fn is_same(&self, other: &HashedKey) -> bool
+        ensures { result ≡ bytes_eq self.now other.now }
+    {
+        self.key == other.key
     }
 
     // The entry of an echoer for a verifier over a digest, at a slot.

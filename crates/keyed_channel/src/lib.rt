@@ -37,9 +37,9 @@
 //! That nobody without the key makes up such a tag is no part of what is proved. `frame_parts` and `frame_header` read what
 //! a frame says of itself with no key, and check nothing of it.
 //!
-//! `Channel` seals, opens and tags entries with the same contracts, and hashes the pads of each key once. A frame that is
-//! known to be sealed by a channel which shares its key needs no tag to be opened (`Channel::open_shared`). Nothing is said
-//! of how long a call takes, and so nothing of what its time tells about a key.
+//! `Channel` seals, opens and tags entries with the same contracts, and hashes the pads of each key once. A `LazyFrame` is a
+//! frame that a channel made, whose tag is computed once its bytes are asked for: in one process it is opened without, by a channel
+//! that shares the key. Nothing is said of how long a call takes, and so nothing of what its time tells about a key.
 #![tactic(auto)]
 
 mod channel;
@@ -48,6 +48,7 @@ mod frame;
 mod hashed_key;
 mod keys;
 mod laws;
+mod lazy;
 mod lengths;
 mod note;
 mod parts;
@@ -62,6 +63,7 @@ pub use laws::{
     notes_open, notes_sealed, opened_from_peer, opened_parts, opens_as_sealed, opens_sealed,
     sealed_length, sealed_long, sealed_opens,
 };
+pub use lazy::LazyFrame;
 pub use lengths::{FRAME_OVERHEAD, HEAD_LEN, LEAST_FRAME, NOTE_LEN, TAG_LEN, lengths_are};
 pub use note::{Note, is_note, open_note, seal_ack, seal_again};
 pub use parts::{FrameHeader, FrameParts, frame_header, frame_parts};

@@ -4,7 +4,7 @@ use Rattle.std.proofs.lemmas.Bool.{eq-eqb, ne_eqb}
 use Rattle.ritas_base.specs.declared.event.Event.{Event}
 use Rattle.ritas_base.specs.declared.event.Event.TheVariants as events
 use Rattle.ritas_core.specs.Machine.{CoreState}
-use Rattle.replica.specs.declared.frame.OutFrame.{OutFrame}
+use Rattle.replica.specs.Out.{OutFrame}
 use Rattle.replica.specs.Handling.{ReplicaCall, Frame, Input, Turn, Handled, handled}
 use Rattle.world_model.specs.World.{Setting, rules_at, CallAt, call_at, call_of, handled_at, after_call, states_of, states_before, seen_answer, seen_call, seen_of}
 use Rattle.world_model.specs.Stands.{NoneStops}

@@ -10,7 +10,7 @@ use Rattle.ritas_core.specs.Stands.{Meaning}
 use Rattle.outside.specs.declared.link.Sent.{Sent}
 use Rattle.client_port.specs.Messages.{Request, request_parts, request_in}
 use Rattle.command_log.specs.Rows.{position_of}
-use Rattle.replica.specs.declared.frame.OutFrame.{OutFrame}
+use Rattle.replica.specs.Out.{OutFrame}
 use Rattle.replica.specs.declared.replica.Replica.{Replica}
 use Rattle.world_model.specs.World.{Setting}
 use Rattle.world_model.specs.Agree.{rows_at}

@@ -22,7 +22,7 @@ use Rattle.node_loop.specs.declared.output.More.{More}
 use Rattle.node_loop.specs.declared.output.More.TheVariants as mores
 use Rattle.node_loop.specs.declared.output.Output.{Output}
 use Rattle.node_loop.specs.declared.output.Reply.{Reply}
-use Rattle.replica.specs.declared.frame.OutFrame.{OutFrame}
+use Rattle.replica.specs.Out.{OutFrame}
 use Rattle.node_loop.specs.Calls.{Outcome}
 use Rattle.node_loop.specs.Deeds.{Deed, Resent, act_of, has_resent}
 use Rattle.node_loop.specs.Groups.{acts_by, acts_each, more_by, FitsPeers, kept_listed, text_listed, GroupHolds, JoinsGroup, Under, IsEmpty}

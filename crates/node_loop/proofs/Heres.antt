@@ -16,7 +16,7 @@ use Rattle.ritas_core.specs.Rules.{Rules}
 use Rattle.command_log.specs.Rows.{Row}
 use Rattle.replica.specs.CommandRows.{history_rows as replica_rows}
 use Rattle.ritas_core.specs.Stands.{Meaning}
-use Rattle.replica.specs.declared.frame.OutFrame.{OutFrame}
+use Rattle.replica.specs.Out.{OutFrame}
 use Rattle.replica.specs.declared.refusal.Refusal.{Refusal}
 use Rattle.replica.specs.declared.refusal.Refusal.TheVariants as refusals
 use Rattle.replica.specs.declared.replica.Replica.{Replica}

@@ -6,7 +6,7 @@ use Rattle.std.proofs.lemmas.Bool.{cases_Bool, cases_eq, eq-eqb, eqb-true, le-le
 use Rattle.std.specs.Prelude.{map, take}
 use Rattle.std.proofs.Common.{get_or}
 use Rattle.std.proofs.lemmas.List.{map_more}
-use Rattle.replica.specs.declared.frame.OutFrame.{OutFrame}
+use Rattle.replica.specs.Out.{OutFrame}
 use Rattle.world_model.specs.MadeOrder.{MadeFrame}
 use Rattle.keyed_channel.specs.Frames.{seq_of}
 use Rattle.link_resume.specs.declared.kept.Kept.{Kept}

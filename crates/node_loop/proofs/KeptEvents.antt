@@ -33,7 +33,7 @@ use Rattle.ritas_core.specs.Checks.{verdict_on, input_check, input_fault_or, win
 use Rattle.ritas_core.specs.Parts.{Parts, parts}
 use Rattle.replica.specs.Handling.{ReplicaCall, Frame, Input, Turn, Handled, handled, given_body, given_frame, core_answer, framed}
 use Rattle.replica.specs.Frames.{frames_of as frames_for, count_for}
-use Rattle.replica.specs.declared.frame.OutFrame.{OutFrame}
+use Rattle.replica.specs.Out.{OutFrame}
 use Rattle.world_model.specs.World.{Setting, CallAt, rules_at, handled_at, after_call, call_at, call_of, halted_at, seen_answer, seen_call, states_of, states_before}
 use Rattle.world_model.specs.MadeOrder.{MadeFrame, frames_of_call, all_made}
 use Rattle.world_model.specs.Stands.{NoneStops}

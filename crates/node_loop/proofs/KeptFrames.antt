@@ -21,7 +21,7 @@ use Rattle.ritas_core.specs.Order.{sent_to}
 use Rattle.ritas_core.specs.Rules.{Rules}
 use Rattle.ritas_core.specs.Machine.{CoreState}
 use Rattle.ritas_core.specs.Stands.{Meaning}
-use Rattle.replica.specs.declared.frame.OutFrame.{OutFrame}
+use Rattle.replica.specs.Out.{OutFrame}
 use Rattle.replica.specs.Frames.{body_of, frame_for, receivers, frames_of}
 use Rattle.replica.specs.Handling.{ReplicaCall, Frame, Input, Turn, handled, given_body, given_frame}
 use Rattle.outside.specs.Links.{LinkAct, Sends}

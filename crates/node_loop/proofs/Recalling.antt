@@ -6,7 +6,7 @@ use Rattle.ritas_base.specs.declared.event.Event.TheVariants as events
 use Rattle.keyed_channel.specs.KeyRow.{KeyRow}
 use Rattle.link_resume.specs.declared.kept.Kept.{Kept}
 use Rattle.link_resume.specs.Lists.{room_for, with_room}
-use Rattle.replica.specs.declared.frame.OutFrame.{OutFrame}
+use Rattle.replica.specs.Out.{OutFrame}
 use Rattle.ritas_core.specs.Stands.{Meaning}
 use Rattle.schedule_file.specs.Spelling.{IsAlone}
 use Rattle.world_model.specs.World.{Setting, seen_of}

@@ -3,7 +3,7 @@ use Rattle.std.specs.Prelude.{◌≡◌, ℕ, ◌<◌, List, length, slice_index
 use Rattle.outside.specs.Links.{LinkAct}
 use Rattle.link_resume.specs.declared.kept.Kept.{Kept}
 use Rattle.link_resume.specs.Lists.{kept_for}
-use Rattle.replica.specs.declared.frame.OutFrame.{OutFrame}
+use Rattle.replica.specs.Out.{OutFrame}
 use Rattle.world_model.specs.MadeOrder.{MadeFrame}
 use Rattle.node_loop.specs.declared.peers.Keeper.{Keeper}
 use Rattle.node_loop.specs.declared.peers.Mark.{Mark}

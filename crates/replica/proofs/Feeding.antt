@@ -20,7 +20,7 @@ use Rattle.ritas_core.specs.Machine.{CoreState, with_lost}
 use Rattle.ritas_core.specs.Laws.{LayerLaws, WordsAreProper}
 use Rattle.ritas_core.specs.Stands.{Meaning, CoreStands}
 use Rattle.ritas_core.specs.StandsLaws.{layer_laws}
-use Rattle.replica.specs.declared.frame.OutFrame.{OutFrame}
+use Rattle.replica.specs.Out.{OutFrame}
 use Rattle.replica.specs.declared.replica.Replica.{Replica}
 use Rattle.replica.specs.CommandRows.{command_of, ids_at, entries_at, history_rows, Follows, LiesBetween, HasCommand}
 use Rattle.replica.specs.Steps.{PutsOut, SameRest, FeedsOnly, FeedsSome, FeedsLog}

@@ -10,7 +10,7 @@ use Rattle.ritas_base.specs.Messages.{reaches}
 use Rattle.keyed_channel.specs.KeyRow.{KeyRow}
 use Rattle.keyed_channel.specs.Frames.{sealed}
 use Rattle.ritas_core.specs.Order.{sent_to, new_messages}
-use Rattle.replica.specs.declared.frame.OutFrame.{OutFrame}
+use Rattle.replica.specs.Out.{OutFrame}
 use Rattle.replica.specs.Frames.{frames_of, body_of, count_for, made_for, sealed_onto}
 use Rattle.replica.specs.Sending.{counts_with}
 use Rattle.replica.specs.Laws.{bytes_for, MadeByEntry, MadeLength}

@@ -16,7 +16,7 @@ use Rattle.ritas_core.specs.Stands.{Meaning, CoreStands}
 use Rattle.ritas_core.specs.Shown.{tagger_of}
 use Rattle.ritas_core.specs.Calls as calls
 use Rattle.ritas_core.specs.Calls.{IsCoreStep, entry_of_call, stopped}
-use Rattle.replica.specs.declared.frame.OutFrame.{OutFrame}
+use Rattle.replica.specs.Out.{OutFrame}
 use Rattle.replica.specs.declared.refusal.Refusal.{Refusal}
 use Rattle.replica.specs.declared.refusal.Refusal.TheVariants as refusals
 use Rattle.replica.specs.declared.replica.Replica.{Replica}

@@ -4,7 +4,7 @@ use Rattle.std.specs.List.{range_with_len}
 use Rattle.std.proofs.lemmas.List.Elements.{filter-append}
 use Rattle.std.proofs.lemmas.List.{map-append}
 use Rattle.ritas_base.specs.RangeLaws.{range_more}
-use Rattle.replica.specs.declared.frame.OutFrame.{OutFrame}
+use Rattle.replica.specs.Out.{OutFrame}
 
 map_one : (p : ℕ → Bool) (f : ℕ → OutFrame) (j : ℕ) → map f (filter p (j ∷ [])) ≡ cond (p j) (f j ∷ []) []
 map_one p f j = elim (p j) as (λ b. map f (cond b (j ∷ []) []) ≡ cond b (f j ∷ []) []) [ true ↦ refl | false ↦ refl ]

@@ -9,7 +9,7 @@ use Rattle.keyed_channel.specs.Frames.{sealed}
 use Rattle.ritas_core.specs.Rules.{Rules}
 use Rattle.ritas_core.specs.Parts.{Entry}
 use Rattle.ritas_core.specs.Order.{new_messages, sent_to}
-use Rattle.replica.specs.declared.frame.OutFrame.{OutFrame}
+use Rattle.replica.specs.Out.{OutFrame}
 
 -- how many frames a replica with this history made for j
 abbrev pub count_for : Rules → List Entry → ℕ → ℕ

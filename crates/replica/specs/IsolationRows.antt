@@ -1,5 +1,5 @@
 -- Worked rows: a peer's frame goes by what is held for that peer, whatever is held for another.
-use Rattle.std.specs.Prelude.{◌≡◌, ◌≢◌, ℕ, zero, suc, Bool, true, false, List, [], ◌∷◌, sum_by, Option, None, Result, Ok, Err, refl}
+use Rattle.std.specs.Prelude.{◌≡◌, ◌≢◌, ℕ, zero, suc, true, false, List, [], ◌∷◌, sum_by, None, Result, Ok, Err, refl}
 use Rattle.std.proofs.Common.{lit≤, ap, arith}
 use Rattle.ritas_base.specs.Numbers.{Numbers}
 use Rattle.ritas_base.specs.declared.mode.Mode.{Mode}
@@ -9,7 +9,6 @@ use Rattle.ritas_base.specs.declared.item.Item.{Item}
 use Rattle.ritas_base.specs.declared.item.Kind.TheVariants.{Init}
 use Rattle.ritas_base.specs.Slots.{command_slot}
 use Rattle.ritas_base.specs.Tags.{Tags}
-use Rattle.frame_codec.specs.declared.fault.BodyFault.TheVariants as body
 use Rattle.keyed_channel.specs.KeyRow.{KeyRow}
 use Rattle.keyed_channel.specs.declared.frame.OpenFault.TheVariants.{BadTag}
 use Rattle.layer_api.specs.Service.{ServiceRules, Undecided}
@@ -22,7 +21,7 @@ use Rattle.ritas_core.specs.Rules.{Rules, by_other, casts_by}
 use Rattle.ritas_core.specs.Parts.{Given}
 use Rattle.ritas_core.specs.Checks.{verdict_on}
 use Rattle.ritas_core.specs.Machine.{CoreState}
-use Rattle.replica.specs.declared.frame.OutFrame.{OutFrame}
+use Rattle.replica.specs.Out.{OutFrame}
 use Rattle.replica.specs.declared.refusal.Refusal.{Refusal}
 use Rattle.replica.specs.declared.refusal.Refusal.TheVariants as refusals
 use Rattle.replica.specs.Handling.{Handled, given_body, refusal_handled}

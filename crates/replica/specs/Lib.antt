@@ -1,3 +1,4 @@
+pub mod Out
 pub mod Frames
 pub mod Handling
 pub mod Stands

@@ -15,7 +15,7 @@ use Rattle.ritas_core.specs.Parts.{Entry}
 use Rattle.ritas_core.specs.Machine as core
 use Rattle.ritas_core.specs.Machine.{CoreState, What}
 use Rattle.ritas_core.specs.Calls.{IsCoreStep, IsHolding, stopped}
-use Rattle.replica.specs.declared.frame.OutFrame.{OutFrame}
+use Rattle.replica.specs.Out.{OutFrame}
 use Rattle.replica.specs.declared.refusal.Refusal.{Refusal}
 use Rattle.replica.specs.declared.refusal.Refusal.TheVariants as refusals
 use Rattle.replica.specs.Frames.{count_for}

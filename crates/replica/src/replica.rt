@@ -6,7 +6,7 @@ use crate::refusal::Refusal;
 use crate::sending::send;
 use command_log::Log;
 use frame_codec::read_body;
-use keyed_channel::{Channel, Keys};
+use keyed_channel::{Channel, Keys, LazyFrame};
 use layer_api::{Broadcast, Service};
 use ritas_base::{Coin, Item, Mem, Mode, Msg, Params};
 use ritas_core::{Answer, Core, CoreFault, history_laws};
@@ -69,7 +69,12 @@ impl<S: Service, E: Broadcast, C: Coin + Drop> Replica<S, E, C> {
     }
 
     // Seals these messages, and appends the frames.
-    fn put_out(&mut self, alloc: Global, msgs: Vec<Msg>, out: &mut Vec<OutFrame>) -> Result<(), Mem>
+    fn put_out(
+        &mut self,
+        alloc: Global,
+        msgs: Vec<Msg>,
+        out: &mut Vec<OutFrame<LazyFrame>>,
+    ) -> Result<(), Mem>
         ensures ok { OnOk result (PutsOut self.old self.new msgs.items out.old.items out.new.items) }
         ensures err { OnErr result ((out.new.items ≡ out.old.items) × (self.new.sent ≡ self.old.sent)) }
         ensures same { SameRest self.old self.new }
@@ -100,7 +105,12 @@ impl<S: Service, E: Broadcast, C: Coin + Drop> Replica<S, E, C> {
     }
 
     // Feeds the log, and seals these messages.
-    fn pass_on(&mut self, alloc: Global, msgs: Vec<Msg>, out: &mut Vec<OutFrame>) -> Result<(), Mem>
+    fn pass_on(
+        &mut self,
+        alloc: Global,
+        msgs: Vec<Msg>,
+        out: &mut Vec<OutFrame<LazyFrame>>,
+    ) -> Result<(), Mem>
         ensures ok { OnOk result (PutsOut self.old self.new msgs.items out.old.items out.new.items
             × FeedsLog (with_keys S.stands S.rules S.shown E.stands E.rules E.shown C.bits) self.old self.new) }
         ensures err { OnErr result ((out.new.items ≡ out.old.items) × (self.new.sent ≡ self.old.sent)
@@ -117,7 +127,7 @@ impl<S: Service, E: Broadcast, C: Coin + Drop> Replica<S, E, C> {
         alloc: Global,
         answer: Result<Answer, CoreFault>,
         msgs: Vec<Msg>,
-        out: &mut Vec<OutFrame>,
+        out: &mut Vec<OutFrame<LazyFrame>>,
     ) -> Result<Answer, Refusal>
         ensures { ReplicaFinishes (with_keys S.stands S.rules S.shown E.stands E.rules E.shown C.bits)
             self.old self.new answer msgs.items out.old.items out.new.items result }
@@ -164,7 +174,7 @@ impl<S: Service, E: Broadcast, C: Coin + Drop> Replica<S, E, C> {
         &mut self,
         alloc: Global,
         bytes: &[u8],
-        out: &mut Vec<OutFrame>,
+        out: &mut Vec<OutFrame<LazyFrame>>,
     ) -> Result<Answer, Refusal>
         ensures does { ReplicaDoesAll (ReplicaStands (with_keys S.stands S.rules S.shown E.stands E.rules E.shown C.bits))
             self.old self.new (Frame bytes.now) out.old.items out.new.items result }
@@ -177,20 +187,32 @@ impl<S: Service, E: Broadcast, C: Coin + Drop> Replica<S, E, C> {
         }
     }
 
-    /// Takes what a frame that came opens to, its sender and its body, and does all that `on_frame` does with that frame,
-    /// but for opening it: no tag is computed. It is for a caller who knows that such a frame opens at this replica, as of
-    /// one that a replica sealed which shares its key. Of any other sender and body nothing is said.
-    ///
-    /// `Body` is answered exactly where the body spells no item, also once the replica is stopped, and `Core` where the
-    /// core refuses the item: each leaves the replica and `out` as they were. `Body(Mem)` and `Core(Mem)` are as in
-    /// `on_frame`, and `Open` doesn't come. What is answered and put out goes by the history and by what is held for the
-    /// sender alone, as in `on_frame`.
-    pub fn on_opened(
+    /// Takes a frame that a channel made, and does all that `on_frame` does with its bytes. No tag is computed where that channel shares
+    /// its key with this replica.
+    pub fn on_lazy_frame(
+        &mut self,
+        alloc: Global,
+        frame: &LazyFrame,
+        out: &mut Vec<OutFrame<LazyFrame>>,
+    ) -> Result<Answer, Refusal>
+        ensures does { ReplicaDoesAll (ReplicaStands (with_keys S.stands S.rules S.shown E.stands E.rules E.shown C.bits))
+            self.old self.new (Frame frame.now) out.old.items out.new.items result }
+        ensures isolated { IsIsolated (ReplicaStands (with_keys S.stands S.rules S.shown E.stands E.rules E.shown C.bits))
+            self.old frame.now out.old.items out.new.items result }
+    {
+        match self.core.tagger().open_lazily(frame) {
+            Ok(opened) => self.on_opened(alloc, opened.from, opened.body, out),
+            Err(fault) => Err(Refusal::Open(fault)),
+        }
+    }
+
+    // Takes what a frame that came opens to, its sender and its body.
+    fn on_opened(
         &mut self,
         alloc: Global,
         from: u8,
         body: &[u8],
-        out: &mut Vec<OutFrame>,
+        out: &mut Vec<OutFrame<LazyFrame>>,
     ) -> Result<Answer, Refusal>
         ensures does { DoesOpened (ReplicaStands (with_keys S.stands S.rules S.shown E.stands E.rules E.shown C.bits))
             self.old self.new from body.now out.old.items out.new.items result }
@@ -214,7 +236,7 @@ impl<S: Service, E: Broadcast, C: Coin + Drop> Replica<S, E, C> {
         &mut self,
         alloc: Global,
         bytes: &[u8],
-        out: &mut Vec<OutFrame>,
+        out: &mut Vec<OutFrame<LazyFrame>>,
     ) -> Result<Answer, Refusal>
         ensures { ReplicaDoesAll (ReplicaStands (with_keys S.stands S.rules S.shown E.stands E.rules E.shown C.bits))
             self.old self.new (Input bytes.now) out.old.items out.new.items result }
@@ -232,7 +254,11 @@ impl<S: Service, E: Broadcast, C: Coin + Drop> Replica<S, E, C> {
     ///
     /// The one error is `Core`, which leaves `out` as it was, and the replica but that the item has left the inbox.
     /// `Core(Mem)` leaves all as it was where the item was to be held; where it was to be taken, the replica is stopped.
-    pub fn on_turn(&mut self, alloc: Global, out: &mut Vec<OutFrame>) -> Result<Answer, Refusal>
+    pub fn on_turn(
+        &mut self,
+        alloc: Global,
+        out: &mut Vec<OutFrame<LazyFrame>>,
+    ) -> Result<Answer, Refusal>
         ensures { ReplicaDoesAll (ReplicaStands (with_keys S.stands S.rules S.shown E.stands E.rules E.shown C.bits))
             self.old self.new Turn out.old.items out.new.items result }
     {

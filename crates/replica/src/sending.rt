@@ -7,9 +7,10 @@ ghost use Rattle.replica.specs.Sending.{AreCounts, Sends, raised_at};
 
 use crate::frame::OutFrame;
 use frame_codec::write_body;
-use keyed_channel::Channel;
+use keyed_channel::{Channel, LazyFrame};
 use ritas_base::{Item, Mem, Msg, To};
 use std::alloc::Global;
+use std::rc::Rc;
 
 // Whether a message for these receivers comes to replica j.
 fn reaches(to: To, j: usize) -> bool
@@ -28,13 +29,13 @@ fn is_receiver(to: To, me: u8, j: u8) -> bool
     reaches(to, usize::from(j)) && j != me
 }
 
-// Seals a message for each replica that it reaches but this one.
+// Seals a message for each replica that it reaches but this one. The frames share the body.
 fn seal_each(
     alloc: Global,
     channel: &Channel,
     counts: &[u64; 31],
     msg: Msg,
-    made: &mut Vec<OutFrame>,
+    made: &mut Vec<OutFrame<LazyFrame>>,
 ) -> Result<(), Mem>
     ensures few { OnOk result (channel.now.n ≤ 31) }
     ensures made { OnOk result ((count : ℕ → ℕ) → AreCounts channel.now.n counts.now count
@@ -49,10 +50,12 @@ fn seal_each(
         slot: msg.slot,
         value: msg.value,
     };
-    let body = write_body(alloc, &item)?;
+    let text = write_body(alloc, &item)?;
+    let body = Rc::new(alloc, text)?;
+    made.reserve(usize::from(keys.n()))?;
     for j in 0..keys.n() {
         if is_receiver(to, me, j) {
-            let bytes = channel.seal(alloc, j, counts[usize::from(j)], body.as_slice())?;
+            let bytes = channel.seal_lazily(j, counts[usize::from(j)], &body)?;
             made.push(OutFrame { to: j, bytes })?;
         }
     }
@@ -76,7 +79,7 @@ pub(crate) fn send(
     channel: &Channel,
     counts: &mut [u64; 31],
     msgs: Vec<Msg>,
-    made: &mut Vec<OutFrame>,
+    made: &mut Vec<OutFrame<LazyFrame>>,
 ) -> Result<(), Mem>
     ensures { OnOk result ((count : ℕ → ℕ) → AreCounts channel.now.n counts.old count
         → Sends channel.now count msgs.items counts.new made.old.items made.new.items) }

@@ -64,7 +64,9 @@ fn frames_of_two_messages(rt: HostRuntime) -> Result<(), Fail> {
     assert_eq!(rt; made.len(), FRAMES.len());
     for (frame, (to, bytes)) in made.iter().zip(FRAMES) {
         assert_eq!(rt; frame.to, to);
-        assert_eq!(rt; frame.bytes.as_slice(), bytes);
+        let made = frame.bytes.to_bytes(rt.alloc())?;
+        assert_eq!(rt; made.as_slice(), bytes);
+        assert!(rt; frame.bytes.is(bytes));
     }
     assert_eq!(rt; (counts[0], counts[1], counts[2], counts[3]), (2, 1, 1, 1));
     Ok(())

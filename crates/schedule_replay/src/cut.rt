@@ -4,6 +4,7 @@ ghost use Rattle.outside.specs.Writing.{Writes};
 ghost use Rattle.schedule_replay.specs.declared.cut.Cut.TheVariants as cuts;
 
 use outside::{Sink, write_all};
+use ritas_base::Mem;
 use std::alloc::AllocError;
 
 /// Why a text wasn't written whole.
@@ -19,6 +20,14 @@ impl From<AllocError> for Cut {
     ghost from_gives = { λ _ e. e ≡ cuts.Mem };
 
     fn from(_: AllocError) -> Cut {
+        Cut::Mem
+    }
+}
+
+impl From<Mem> for Cut {
+    ghost from_gives = { λ _ e. e ≡ cuts.Mem };
+
+    fn from(_: Mem) -> Cut {
         Cut::Mem
     }
 }

@@ -16,8 +16,8 @@ use crate::cut::{Cut, put};
 use crate::lines::audit_line;
 use layer_api::{Broadcast, Service};
 use outside::Sink;
-use ritas_base::Coin;
-use std::alloc::{AllocError, Global};
+use ritas_base::{Coin, Mem};
+use std::alloc::Global;
 use std::fmt::Write;
 use world_model::{Audit, Made, World};
 
@@ -25,13 +25,14 @@ use world_model::{Audit, Made, World};
 const PIECE: usize = 16_384;
 
 // Appends the line of a frame.
-fn add_frame(alloc: Global, text: &mut String, made: Made<'_>) -> Result<(), AllocError>
+fn add_frame(alloc: Global, text: &mut String, made: Made<'_>) -> Result<(), Mem>
     ensures { OnOk result (string_bytes text.new ≡ string_bytes text.old ++ frame_line (made_of made.entry)) }
 {
     let event = made.event;
     let from = made.from;
     let to = made.to;
-    let frame = hex::encode(alloc, made.bytes)?;
+    let bytes = made.frame.to_bytes(alloc)?;
+    let frame = hex::encode(alloc, bytes.as_slice())?;
     write!(text, "{event} {from} {to} {frame}\n")?;
     Ok(())
 }

@@ -160,7 +160,8 @@ impl<S: Service, E: Broadcast> Faces<S, E> {
         faces_are_replicas::<S, E>();
         match self.letter(a).frames_made(a / 2, to).get(number) {
             Some(made) => {
-                let shown = self.as_shown(alloc, a, to, number, made.as_slice())?;
+                let bytes = made.to_bytes(alloc)?;
+                let shown = self.as_shown(alloc, a, to, number, bytes.as_slice())?;
                 Ok(Some(shown))
             }
             None => Ok(None),

@@ -6,15 +6,20 @@ ghost use Rattle.ritas_base.specs.Bytes.{version_byte};
 ghost use Rattle.schedule_file.specs.Spelling.{IsSized};
 ghost use Rattle.world_model.specs.Players.{thrown};
 
+use keyed_channel::LazyFrame;
 use ritas_base::{Bytes, Event, FrameVersion, Mem};
 use std::alloc::Global;
 
-/// A copy of the frame of this number, from 0. The one error is want of memory.
-pub(crate) fn copy_of(alloc: Global, frames: &[Bytes], number: usize) -> Result<Option<Bytes>, Mem>
+/// The bytes of the frame of this number, from 0. The one error is want of memory.
+pub(crate) fn bytes_of(
+    alloc: Global,
+    frames: &[LazyFrame],
+    number: usize,
+) -> Result<Option<Bytes>, Mem>
     ensures { IfOk result (λ frame. frame ≡ slice_get frames.now number) }
 {
     match frames.get(number) {
-        Some(frame) => Ok(Some(frame.copy(alloc)?)),
+        Some(frame) => Ok(Some(frame.to_bytes(alloc)?)),
         None => Ok(None),
     }
 }

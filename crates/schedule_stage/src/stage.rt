@@ -2,7 +2,7 @@
 
 use crate::faces::Faces;
 use crate::first::first_header;
-use crate::frames::{copy_of, frame_event, frame_number, thrown};
+use crate::frames::{bytes_of, frame_event, frame_number, thrown};
 use crate::halt::Halt;
 use crate::tape::Tape;
 use keyed_channel::SeedCoin;
@@ -102,7 +102,7 @@ impl<S: Service, E: Broadcast> Stage<S, E> {
             (scene_of (world_in m p) (cast_of p.attack) steps) x to) number) }
     {
         match x {
-            Player::Correct(i) => copy_of(alloc, self.world.frames_made(i, to), number),
+            Player::Correct(i) => bytes_of(alloc, self.world.frames_made(i, to), number),
             Player::Face(a) => self.faces.frame(alloc, a, to, number),
         }
     }

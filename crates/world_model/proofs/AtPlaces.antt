@@ -24,13 +24,12 @@ use Rattle.ritas_core.specs.Checks.{verdict_on, input_check}
 use Rattle.ritas_core.specs.Machine as core
 use Rattle.ritas_core.specs.Machine.{CoreState, What, moved, moved_live, stays, gives_item, given_item, given_input, turned}
 use Rattle.ritas_core.specs.Stands.{Meaning}
-use Rattle.ritas_core.specs.Shown.{tagger_of}
-use Rattle.replica.specs.declared.frame.OutFrame.{OutFrame}
+use Rattle.replica.specs.Out.{OutFrame}
 use Rattle.replica.specs.declared.refusal.Refusal.{Refusal}
 use Rattle.replica.specs.declared.refusal.Refusal.TheVariants as refusals
 use Rattle.replica.specs.declared.replica.Replica.{Replica}
 use Rattle.replica.specs.Handling.{ReplicaCall, Frame, Input, Turn, handled, given_frame, given_body}
-use Rattle.replica.specs.Stands.{Handles, ReplicaRunsOut, ReadsNone, ReplicaDoesAll, DoesOpened, body_given, frame_given, core_call}
+use Rattle.replica.specs.Stands.{Handles, ReplicaRunsOut, ReadsNone, ReplicaDoesAll, body_given, frame_given, core_call}
 use Rattle.replica.specs.Replica.{ReplicaStands}
 use Rattle.world_model.specs.declared.seen.Seen.{Seen}
 use Rattle.world_model.specs.declared.seen.Seen.TheVariants as seen_as
@@ -234,19 +233,6 @@ called_at m w states at place call replicas here old new before after answer res
     let there : slice_get replicas place ≡ Some (Some old) = slice_get-get_or replicas place here within ∙ ap (λ x. Some x) old_is in
     let P : ℕ → Type 0 = λ k. CallsOr m w states (call_at w k call) (slice_set replicas place (Some new)) before after result in
     subst P e (called m w states place call replicas old new before after answer result stand there does saw)
-
--- a call with what a frame opens to by the keys of its place, which are the replica's
-pub opened_at : {S E C : Type 0} (m : Meaning S E C KeyRow) (w : Setting) (states : ℕ → CoreState) (at place from seq : ℕ) (said bytes : List ℕ) (replicas : List (Option (Replica S E C))) (here : Option (Replica S E C)) (old new : Replica S E C) (before after : List OutFrame) (answer : Result Answer Refusal) (result : Result Seen Mem) →
-    ReplicasStand m w states replicas → place ≡ at → place < length replicas → slice_index_or replicas place here ≡ Some old
-    → opening (w.keys at) bytes ≡ Ok (record { from = from; seq = seq; body = said })
-    → DoesOpened (ReplicaStands m) old new from said before after answer → Sees answer result
-    → CallsOr m w states (call_at w at (Frame bytes)) (slice_set replicas place (Some new)) before after result
-opened_at m w states at place from seq said bytes replicas here old new before after answer result stand e within old_is opens does saw =
-    let there : slice_get replicas place ≡ Some (Some old) = slice_get-get_or replicas place here within ∙ ap (λ x. Some x) old_is in
-    let is : IsReplica m w states place old = stand.each place (Some old) there in
-    let own : tagger_of old.core ≡ w.keys at = is.stands.keys ∙ ap w.keys e in
-    called_at m w states at place (Frame bytes) replicas here old new before after answer result stand e within old_is
-    (λ r k st stands. does r k st stands bytes seq (ap (λ (x : KeyRow). opening x bytes) (sym stands.keys ∙ own) ∙ opens)) saw
 
 -- a call where no replica is
 pub none_at : {S E C : Type 0} (m : Meaning S E C KeyRow) (w : Setting) (states : ℕ → CoreState) (at place : ℕ) (call : ReplicaCall) (replicas : List (Option (Replica S E C))) (here : Option (Replica S E C)) (before : List OutFrame) →

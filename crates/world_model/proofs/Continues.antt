@@ -10,7 +10,7 @@ use Rattle.keyed_channel.specs.KeyRow.{KeyRow}
 use Rattle.ritas_core.specs.Machine.{CoreState}
 use Rattle.ritas_core.specs.Stands.{Meaning}
 use Rattle.replica.specs.Laws.{MadeByEntry}
-use Rattle.replica.specs.declared.frame.OutFrame.{OutFrame}
+use Rattle.replica.specs.Out.{OutFrame}
 use Rattle.replica.specs.declared.replica.Replica.{Replica}
 use Rattle.world_model.specs.declared.happened.Happened.{Happened}
 use Rattle.world_model.specs.declared.seen.Seen.{Seen}

@@ -12,7 +12,7 @@ use Rattle.frame_codec.specs.Laws.{AnswersGood}
 use Rattle.keyed_channel.specs.KeyRow.{KeyRow}
 use Rattle.ritas_core.specs.Machine.{CoreState}
 use Rattle.ritas_core.specs.Stands.{Meaning}
-use Rattle.replica.specs.declared.frame.OutFrame.{OutFrame}
+use Rattle.replica.specs.Out.{OutFrame}
 use Rattle.replica.specs.declared.replica.Replica.{Replica}
 use Rattle.replica.specs.Frames.{made_for}
 use Rattle.replica.specs.Handling.{ReplicaCall, Frame, Input, Turn}
@@ -66,11 +66,11 @@ fair_frame : (w : Setting) (states : ℕ → CoreState) (at : ℕ) (bytes : List
 fair_frame w states at bytes true fair = fair
 fair_frame w states at bytes false fair = refl
 
-pub opened_happens : {S E C : Type 0} → AnswersGood → (m : Meaning S E C KeyRow) (w : Setting) (seats : Seats) (states : ℕ → CoreState) (at : ℕ) (bytes : List ℕ) (places : List (Option (Replica S E C))) (happened : Happened) (before : List OutFrame) →
+pub made_happens : {S E C : Type 0} → AnswersGood → (m : Meaning S E C KeyRow) (w : Setting) (seats : Seats) (states : ℕ → CoreState) (at : ℕ) (bytes : List ℕ) (places : List (Option (Replica S E C))) (happened : Happened) (before : List OutFrame) →
     SeatsStand w seats → before ≡ [] → CallAnswered m w states (call_at w at (Frame bytes)) places before happened.out.items happened.seen
     → happened.at ≡ at → happened.forged ≡ false → is_forged_call w states at (Frame bytes) ≡ false
     → IsFrameItem seats.params seats.mode happened.seen bytes happened.taken → CallHappened m w states (call_at w at (Frame bytes)) places happened
-opened_happens good m w seats states at bytes places happened before seats_stand none calls e forged fair item =
+made_happens good m w seats states at bytes places happened before seats_stand none calls e forged fair item =
     happens m w states at (Frame bytes) places happened before none calls e
     (forged ∙ sym (fair_frame w states at bytes (w.is_correct at) fair))
     (frame_item_is good w seats states at bytes happened.taken happened.seen seats_stand item calls.seen)

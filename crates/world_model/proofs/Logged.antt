@@ -1,7 +1,7 @@
 -- The logs of commands of correct replicas, from their identifier logs and one value at each slot.
-use Rattle.std.specs.Prelude.{◌≡◌, ℕ, zero, suc, ◌+◌, ◌-◌, ◌<◌, ◌≤◌, ◌==◌, Bool, true, false, cond, if◌then◌else◌, count_by, List, [], ◌∷◌, ◌++◌, length, Option, Some, None, is_some, unwrap_or, refl}
+use Rattle.std.specs.Prelude.{◌≡◌, ℕ, zero, suc, ◌+◌, ◌-◌, ◌<◌, ◌≤◌, ◌==◌, Bool, true, false, cond, if◌then◌else◌, count_by, List, [], ◌∷◌, ◌++◌, Option, Some, None, is_some, unwrap_or, refl}
 use Rattle.std.specs.List.{range_with_len}
-use Rattle.std.proofs.Common.{sym, ◌∙◌, ap, ap₂, subst, inl, inr, arith}
+use Rattle.std.proofs.Common.{sym, ◌∙◌, ap, subst, inl, inr, arith}
 use Rattle.std.proofs.lemmas.Bool.{ltb-true, false_from_ne_true}
 use Rattle.std.proofs.lemmas.List.Sums.{sum_by_push}
 use Rattle.std.proofs.lemmas.List.FromFn.{length-range_with_len}
@@ -16,8 +16,8 @@ use Rattle.layer_api.specs.Service.{AreHeard, AreProper, AreDistinct, MayHear, M
 use Rattle.layer_api.specs.Words.{Word, is_heard, value_at}
 use Rattle.layer_api.specs.FedLaws.{heard_met}
 use Rattle.layer_api.specs.PartLaws.{heard_is}
-use Rattle.command_log.specs.Rows.{Row, row_of, is_same_command, is_origin, origins, entry_of_id, entries_of_log, IsIn, HasRow}
-use Rattle.command_log.specs.Laws.{command_part, row_is, row_confirmed, AreOne, one_from, IsOriginOf, origin_is}
+use Rattle.command_log.specs.Rows.{Row, row_of, is_same_command, is_origin, entries_of_log, IsIn, HasRow}
+use Rattle.command_log.specs.Laws.{command_part, row_is, row_confirmed, one_from, IsOriginOf, origin_is}
 use Rattle.ritas_core.specs.Rules.{seat_of}
 use Rattle.ritas_core.specs.HeardLaws.{heard_delivered}
 use Rattle.world_model.specs.declared.audit.Audit.TheVariants.{Holds}

@@ -1,11 +1,12 @@
 -- A frame that a replica made for another is sealed with its keys, and doesn't forge.
-use Rattle.std.proofs.Common.{◌≡◌, ℕ, ◌<◌, ◌==◌, Bool, true, false, not, ◌&&◌, if◌then◌else◌, List, [], ◌∷◌, reverse, Ok, refl, sym, ◌∙◌, ap, subst, inl, inr}
+use Rattle.std.proofs.Common.{◌≡◌, ℕ, ◌<◌, ◌==◌, Bool, true, false, not, ◌&&◌, if◌then◌else◌, List, [], ◌∷◌, reverse, Result, Ok, Err, refl, sym, ◌∙◌, ap, subst, inl, inr}
 use Rattle.std.specs.Str.{bytes_eq}
 use Rattle.std.proofs.lemmas.Slice.Eq.{bytes_eq-Decides}
 use Rattle.layer_api.specs.Runs.{Has}
 use Rattle.keyed_channel.specs.KeyRow.{KeyRow}
 use Rattle.keyed_channel.specs.Frames.{Opening, opening, sealed, sender_of}
 use Rattle.keyed_channel.specs.FramesLaws.{opened_is}
+use Rattle.keyed_channel.specs.declared.frame.OpenFault.{OpenFault}
 use Rattle.ritas_core.specs.Rules.{Rules}
 use Rattle.ritas_core.specs.Parts.{Entry}
 use Rattle.ritas_core.specs.Order.{new_messages, sent_to}
@@ -50,14 +51,19 @@ and_not : (a b : Bool) → b ≡ true → (a && not b) ≡ false
 and_not true b e = ap not e
 and_not false b e = refl
 
--- it opens as from its sender, which made it
-pub fair_to_pass : (w : Setting) (seats : Seats) (states : ℕ → CoreState) (from to : ℕ) (bytes : List ℕ) (o : Opening) → SeatsStand w seats → from < w.numbers.n
-    → Has (frames_from w states from to) bytes → opening (w.keys to) bytes ≡ Ok o → is_forged_call w states to (Frame bytes) ≡ false
-fair_to_pass w seats states from to bytes o stand below there opens =
+-- where it opens it opens as from its sender, which made it
+fair_opening : (w : Setting) (seats : Seats) (states : ℕ → CoreState) (from to : ℕ) (bytes : List ℕ) (opened : Result Opening OpenFault) → SeatsStand w seats → from < w.numbers.n
+    → Has (frames_from w states from to) bytes → opening (w.keys to) bytes ≡ opened → is_forged_opening w states to bytes opened ≡ false
+fair_opening w seats states from to bytes (Err fault) stand below there opens = refl
+fair_opening w seats states from to bytes (Ok o) stand below there opens =
     let parts = (opened_is (w.keys to) bytes o opens).parts in
     let sender : o.from ≡ from =
     ap (λ (p : Opening). p.from) (sym parts) ∙ ap sender_of (frame_sealed w states from to bytes there).is ∙ (stand.own from below).0 in
     let made = made_for (rules_at w from) (w.keys from) (states from).history to in
     let listed = any_of (bytes_eq bytes) made bytes (was_made w states from to bytes there) ((bytes_eq-Decides bytes bytes).1 refl) in
     let P : ℕ → Type 0 = λ i. has_made w states i to bytes ≡ true in
-    ap (is_forged_opening w states to bytes) opens ∙ and_not (w.is_correct o.from) (has_made w states o.from to bytes) (subst P (sym sender) listed)
+    and_not (w.is_correct o.from) (has_made w states o.from to bytes) (subst P (sym sender) listed)
+
+pub fair_to_pass : (w : Setting) (seats : Seats) (states : ℕ → CoreState) (from to : ℕ) (bytes : List ℕ) → SeatsStand w seats → from < w.numbers.n
+    → Has (frames_from w states from to) bytes → is_forged_call w states to (Frame bytes) ≡ false
+fair_to_pass w seats states from to bytes stand below there = fair_opening w seats states from to bytes (opening (w.keys to) bytes) stand below there refl

@@ -13,7 +13,7 @@ use Rattle.ritas_base.specs.Messages.{reaches}
 use Rattle.keyed_channel.specs.KeyRow.{KeyRow}
 use Rattle.ritas_core.specs.Order.{sent_to}
 use Rattle.replica.specs.Frames.{frames_of, frame_for, receivers}
-use Rattle.replica.specs.declared.frame.OutFrame.{OutFrame}
+use Rattle.replica.specs.Out.{OutFrame}
 use Rattle.world_model.specs.FramesMade.{MadeTable, IsSquare, made_in, frames_to, pushed_at, with_frame, with_frames}
 
 -- ---- lists of lists

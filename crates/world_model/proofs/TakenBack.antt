@@ -3,7 +3,7 @@ use Rattle.std.proofs.Common.{◌≡◌, ℕ, ◌+◌, ◌*◌, ◌-◌, ◌<◌
 use Rattle.std.specs.Result.{is_err, OnOk, OnErr}
 use Rattle.std.proofs.lemmas.Bool.{cases_lt}
 use Rattle.std.proofs.lemmas.List.{length-append, length-set, get_or-map, get_or-set_same, map-set, set-get_or, set-set, set_past, take_at}
-use Rattle.replica.specs.declared.frame.OutFrame.{OutFrame}
+use Rattle.replica.specs.Out.{OutFrame}
 use Rattle.world_model.specs.declared.order.Place.{Place}
 use Rattle.world_model.specs.FramesMade.{MadeTable, next_place, with_frame, with_frames}
 use Rattle.world_model.proofs.Tables.{with_frames-append}

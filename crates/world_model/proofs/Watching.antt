@@ -3,13 +3,13 @@ use Rattle.std.proofs.Common.{◌≡◌, ◌≢◌, ℕ, ◌<◌, Bool, true, fa
 use Rattle.std.specs.List.{list_any, range_with_len, slice_get}
 use Rattle.std.specs.Option.{option_or, is_none, is_some}
 use Rattle.std.proofs.lemmas.Option.{same_Some}
-use Rattle.std.proofs.lemmas.Bool.{and_parts, or_parts, or_cases, eq-eqb, eqb-true, false≢true}
+use Rattle.std.proofs.lemmas.Bool.{or_parts, or_cases, eq-eqb, eqb-true, false≢true}
 use Rattle.ritas_base.specs.declared.slot.Slot.{Slot}
 use Rattle.ritas_base.specs.declared.item.Item.{Item}
 use Rattle.ritas_base.specs.declared.item.Kind.{Kind}
 use Rattle.ritas_base.specs.declared.item.Kind.TheVariants.{Send, Column}
 use Rattle.ritas_base.specs.declared.item.Kind.TheVariants as kinds
-use Rattle.ritas_base.specs.SlotOrder.{slot_cmp, is_slot, same_slot, slot_itself}
+use Rattle.ritas_base.specs.SlotOrder.{slot_cmp, is_slot, same_slot}
 use Rattle.ritas_base.specs.Shortest.{option_or_none}
 use Rattle.ritas_base.specs.HistoryLaws.{kind_eq_is}
 use Rattle.ritas_base.specs.declared.mode.Mode.{Mode}

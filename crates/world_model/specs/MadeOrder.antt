@@ -14,7 +14,7 @@ pub record MadeFrame : Type 0 where
 
 -- the one that a value of the struct shows
 abbrev pub made_of : Made → MadeFrame
-made_of m = record { event = m.event; from = m.from; to = m.to; bytes = m.bytes.now }
+made_of m = record { event = m.event; from = m.from; to = m.to; bytes = m.frame.now }
 
 -- those that a call of a replica made, in the event of this number
 abbrev pub frames_of_call : ℕ → Setting → (ℕ → CoreState) → Option CallAt → List MadeFrame

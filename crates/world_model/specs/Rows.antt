@@ -25,7 +25,7 @@ use Rattle.ritas_core.specs.declared.fault.CoreFault.TheVariants as faults
 use Rattle.ritas_core.specs.Machine.{CoreState}
 use Rattle.ritas_core.specs.Parts.{Took, Given}
 use Rattle.ritas_core.specs.Rules.{Rules}
-use Rattle.replica.specs.declared.frame.OutFrame.{OutFrame}
+use Rattle.replica.specs.Out.{OutFrame}
 use Rattle.replica.specs.declared.refusal.Refusal.TheVariants as refusals
 use Rattle.replica.specs.Handling.{Frame, Turn}
 use Rattle.world_model.specs.declared.audit.Audit.TheVariants as audits

@@ -20,7 +20,7 @@ use Rattle.ritas_core.specs.Machine.{CoreState, first_state}
 use Rattle.ritas_core.specs.Rules.{Rules, casts_by}
 use Rattle.ritas_core.specs.Shown.{first_waiting}
 use Rattle.ritas_core.specs.Stands.{Meaning}
-use Rattle.replica.specs.declared.frame.OutFrame.{OutFrame}
+use Rattle.replica.specs.Out.{OutFrame}
 use Rattle.replica.specs.declared.refusal.Refusal.{Refusal}
 use Rattle.replica.specs.declared.refusal.Refusal.TheVariants as refusals
 use Rattle.replica.specs.declared.replica.Replica.{Replica}

@@ -1,8 +1,7 @@
 //! One call on the replica at a place, if there is one.
 
-ghost use Rattle.std.specs.Prelude.{◌≡◌, ℕ, List, Ok};
+ghost use Rattle.std.specs.Prelude.{ℕ};
 ghost use Rattle.keyed_channel.specs.Keyed.{tags_of};
-ghost use Rattle.keyed_channel.specs.Frames.{opening};
 ghost use Rattle.ritas_core.specs.Machine.{CoreState};
 ghost use Rattle.ritas_core.specs.Stands.{meaning};
 ghost use Rattle.replica.specs.Handling.{Frame, Input, Turn};
@@ -12,6 +11,7 @@ ghost use Rattle.world_model.specs.Steps.{Sees, CallsOr};
 
 use crate::seen::Seen;
 use frame_codec::BodyFault;
+use keyed_channel::LazyFrame;
 use layer_api::{Broadcast, Service};
 use replica::{OutFrame, Refusal, Replica};
 use ritas_base::{Coin, Mem};
@@ -36,7 +36,7 @@ pub(crate) fn give_frame<S: Service, E: Broadcast, C: Coin + Drop>(
     replicas: &mut [Option<Replica<S, E, C>>],
     at: u8,
     bytes: &[u8],
-    out: &mut Vec<OutFrame>,
+    out: &mut Vec<OutFrame<LazyFrame>>,
 ) -> Result<Seen, Mem>
     ensures { (w : Setting) (states : ℕ → CoreState)
         → ReplicasStand (meaning S.stands S.rules S.shown E.stands E.rules E.shown C.bits (λ k. k.me) tags_of) w states replicas.old
@@ -53,27 +53,25 @@ pub(crate) fn give_frame<S: Service, E: Broadcast, C: Coin + Drop>(
     }
 }
 
-/// Gives what a frame opens to, its sender and its body, to the replica at a place.
-pub(crate) fn give_opened<S: Service, E: Broadcast, C: Coin + Drop>(
+/// Gives a frame that a channel made to the replica at a place.
+pub(crate) fn give_lazy_frame<S: Service, E: Broadcast, C: Coin + Drop>(
     alloc: Global,
     replicas: &mut [Option<Replica<S, E, C>>],
     at: u8,
-    from: u8,
-    body: &[u8],
-    out: &mut Vec<OutFrame>,
+    frame: &LazyFrame,
+    out: &mut Vec<OutFrame<LazyFrame>>,
 ) -> Result<Seen, Mem>
     ensures { (w : Setting) (states : ℕ → CoreState)
         → ReplicasStand (meaning S.stands S.rules S.shown E.stands E.rules E.shown C.bits (λ k. k.me) tags_of) w states replicas.old
-        → (bytes : List ℕ) (seq : ℕ) → opening (w.keys at) bytes ≡ Ok (record { from = from; seq = seq; body = body.now })
         → CallsOr (meaning S.stands S.rules S.shown E.stands E.rules E.shown C.bits (λ k. k.me) tags_of) w states
-        (call_at w at (Frame bytes)) replicas.new out.old.items out.new.items result }
+        (call_at w at (Frame frame.now)) replicas.new out.old.items out.new.items result }
 {
     let place = usize::from(at);
     if place >= replicas.len() {
         return Ok(Seen::Missed);
     }
     match &mut replicas[place] {
-        Some(replica) => seen(replica.on_opened(alloc, from, body, out)),
+        Some(replica) => seen(replica.on_lazy_frame(alloc, frame, out)),
         None => Ok(Seen::Missed),
     }
 }
@@ -84,7 +82,7 @@ pub(crate) fn give_input<S: Service, E: Broadcast, C: Coin + Drop>(
     replicas: &mut [Option<Replica<S, E, C>>],
     at: u8,
     bytes: &[u8],
-    out: &mut Vec<OutFrame>,
+    out: &mut Vec<OutFrame<LazyFrame>>,
 ) -> Result<Seen, Mem>
     ensures { (w : Setting) (states : ℕ → CoreState)
         → ReplicasStand (meaning S.stands S.rules S.shown E.stands E.rules E.shown C.bits (λ k. k.me) tags_of) w states replicas.old
@@ -106,7 +104,7 @@ pub(crate) fn give_turn<S: Service, E: Broadcast, C: Coin + Drop>(
     alloc: Global,
     replicas: &mut [Option<Replica<S, E, C>>],
     at: u8,
-    out: &mut Vec<OutFrame>,
+    out: &mut Vec<OutFrame<LazyFrame>>,
 ) -> Result<Seen, Mem>
     ensures { (w : Setting) (states : ℕ → CoreState)
         → ReplicasStand (meaning S.stands S.rules S.shown E.stands E.rules E.shown C.bits (λ k. k.me) tags_of) w states replicas.old

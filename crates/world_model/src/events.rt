@@ -1,26 +1,24 @@
 //! What an event does to the replicas of a world.
 
-ghost use Rattle.std.specs.Prelude.{◌≡◌, ◌≢◌, ℕ, ◌<◌, ◌&&◌, false, Ok};
+ghost use Rattle.std.specs.Prelude.{◌≡◌, ℕ, ◌<◌, ◌&&◌};
 ghost use Rattle.keyed_channel.specs.Keyed.{tags_of};
-ghost use Rattle.keyed_channel.specs.Frames.{opening};
 ghost use Rattle.layer_api.specs.Runs.{Has};
 ghost use Rattle.ritas_core.specs.Machine.{CoreState};
 ghost use Rattle.ritas_core.specs.Stands.{meaning};
 ghost use Rattle.replica.specs.Handling.{Frame, Input, Turn};
 ghost use Rattle.world_model.specs.World.{Setting, call_at};
-ghost use Rattle.world_model.specs.Audit.{is_forged_call};
 ghost use Rattle.world_model.specs.Stands.{SeatsStand, ReplicasStand, FramesStand, frames_from};
 ghost use Rattle.ritas_base.specs.Events.{MayHappen};
 ghost use Rattle.world_model.specs.Steps.{CallHappens, EventHappens, is_seen_opened};
 
-use crate::calls::{give_frame, give_input, give_opened, give_turn};
+use crate::calls::{give_frame, give_input, give_lazy_frame, give_turn};
 use crate::happened::Happened;
 use crate::made::MadeFrames;
 use crate::seats::Seats;
 use crate::seen::Seen;
-use crate::taken::{frame_item, front_item, if_took};
+use crate::taken::{frame_item, front_item, if_took, lazy_frame_item};
 use frame_codec::spelled;
-use keyed_channel::Opened;
+use keyed_channel::LazyFrame;
 use layer_api::{Broadcast, Service};
 use replica::{Refusal, Replica};
 use ritas_base::{Coin, Event, Mem};
@@ -114,26 +112,24 @@ fn turn_comes<S: Service, E: Broadcast, C: Coin + Drop>(
     })
 }
 
-// What a frame opens to comes to a replica. The frame doesn't forge.
-fn opened_comes<S: Service, E: Broadcast, C: Coin + Drop>(
+// A frame comes to a replica from the one that made it for it, so it doesn't forge. No tag is computed where the two share their key.
+fn made_comes<S: Service, E: Broadcast, C: Coin + Drop>(
     alloc: Global,
     seats: &Seats,
     replicas: &mut [Option<Replica<S, E, C>>],
     to: u8,
-    opened: &Opened<'_>,
-    bytes: &[u8],
+    frame: &LazyFrame,
 ) -> Result<Happened, Mem>
     ensures { (w : Setting) (states : ℕ → CoreState) → SeatsStand w seats.now
         → ReplicasStand (meaning S.stands S.rules S.shown E.stands E.rules E.shown C.bits (λ k. k.me) tags_of) w states replicas.old
-        → opening (w.keys to) bytes.now ≡ Ok (record { from = opened.now.from; seq = opened.now.seq; body = opened.now.body.now })
-        → is_forged_call w states to (Frame bytes.now) ≡ false
+        → (from : ℕ) → from < w.numbers.n → Has (frames_from w states from to) frame.now
         → CallHappens (meaning S.stands S.rules S.shown E.stands E.rules E.shown C.bits (λ k. k.me) tags_of) w states
-        (call_at w to (Frame bytes.now)) replicas.new result }
+        (call_at w to (Frame frame.now)) replicas.new result }
 {
     spelled();
     let mut out = Vec::new(alloc);
-    let seen = give_opened(alloc, replicas, to, opened.from, opened.body, &mut out)?;
-    let taken = frame_item(alloc, &seats.params, &seats.mode, &seen, bytes)?;
+    let seen = give_lazy_frame(alloc, replicas, to, frame, &mut out)?;
+    let taken = lazy_frame_item(alloc, &seats.params, &seats.mode, &seen, frame)?;
     let forged = false;
     Ok(Happened {
         at: to,
@@ -142,28 +138,6 @@ fn opened_comes<S: Service, E: Broadcast, C: Coin + Drop>(
         taken,
         out,
     })
-}
-
-// A frame comes to a replica from the one that made it for it. Where the two share their key, no tag is computed.
-fn made_comes<S: Service, E: Broadcast, C: Coin + Drop>(
-    alloc: Global,
-    seats: &Seats,
-    made: &MadeFrames,
-    replicas: &mut [Option<Replica<S, E, C>>],
-    from: u8,
-    to: u8,
-    bytes: &[u8],
-) -> Result<Happened, Mem>
-    ensures { (w : Setting) (states : ℕ → CoreState) → SeatsStand w seats.now → FramesStand w states made.now
-        → ReplicasStand (meaning S.stands S.rules S.shown E.stands E.rules E.shown C.bits (λ k. k.me) tags_of) w states replicas.old
-        → from < w.numbers.n → to < w.numbers.n → from ≢ to → Has (frames_from w states from to) bytes.now
-        → CallHappens (meaning S.stands S.rules S.shown E.stands E.rules E.shown C.bits (λ k. k.me) tags_of) w states
-        (call_at w to (Frame bytes.now)) replicas.new result }
-{
-    match seats.open_made(from, to, bytes) {
-        Some(opened) => opened_comes(alloc, seats, replicas, to, &opened, bytes),
-        None => frame_comes(alloc, seats, made, replicas, to, bytes),
-    }
 }
 
 // A frame that one replica made for another comes to it, if there is one of this number.
@@ -183,7 +157,7 @@ fn frame_passes<S: Service, E: Broadcast, C: Coin + Drop>(
         (Event.Pass from to number) replicas.new result }
 {
     match made.frames(from, to).get(number as usize) {
-        Some(frame) => made_comes(alloc, seats, made, replicas, from, to, frame.as_slice()),
+        Some(frame) => made_comes(alloc, seats, replicas, to, frame),
         None => Ok(Happened::nothing(alloc, to)),
     }
 }

@@ -1,6 +1,7 @@
 //! What is known of an event once it happened, for the audit and for whoever asks what became of it.
 
 use crate::seen::Seen;
+use keyed_channel::LazyFrame;
 use replica::OutFrame;
 use ritas_base::Item;
 use std::alloc::Global;
@@ -13,7 +14,7 @@ pub(crate) struct Happened {
     pub(crate) seen: Seen,
     pub(crate) forged: bool,
     pub(crate) taken: Option<Item>,
-    pub(crate) out: Vec<OutFrame>,
+    pub(crate) out: Vec<OutFrame<LazyFrame>>,
 }
 
 impl Happened {

@@ -2,13 +2,14 @@
 
 ghost use Rattle.std.specs.Prelude.{◌≡◌, ◌≢◌, ◌+◌, ◌-◌, ◌*◌, ◌<◌, ◌≤◌, ℕ, map, length, take, List, [], ◌++◌, OnOk, OnErr, IfOk, replicate};
 ghost use Rattle.std.specs.Option.{option_map};
-ghost use Rattle.replica.specs.declared.frame.OutFrame.{OutFrame};
+ghost use Rattle.replica.specs.Out.{OutFrame as an_out_frame};
 ghost use Rattle.world_model.specs.MadeOrder.{made_of};
 ghost use Rattle.world_model.specs.FramesMade.{MadeTable, made_in, made_at, next_place, pushed_at, with_frame, with_frames};
 
 use crate::order::{Made, Place};
+use keyed_channel::LazyFrame;
 use replica::OutFrame;
-use ritas_base::{Bytes, Mem};
+use ritas_base::Mem;
 use std::alloc::Global;
 use std::marker::Model;
 
@@ -17,7 +18,7 @@ use std::marker::Model;
 #[derive(Drop)]
 pub(crate) struct MadeFrames {
     n: u8,
-    lists: Vec<Vec<Bytes>>,
+    lists: Vec<Vec<LazyFrame>>,
     order: Vec<Place>,
 }
 
@@ -33,7 +34,7 @@ impl Model for MadeFrames {
 }
 
 // A frame goes to the back of the list at a place, if there is one. For want of memory the lists are as before.
-fn push_at(lists: &mut Vec<Vec<Bytes>>, at: usize, frame: Bytes) -> Result<(), Mem>
+fn push_at(lists: &mut Vec<Vec<LazyFrame>>, at: usize, frame: LazyFrame) -> Result<(), Mem>
     ensures ok { OnOk result (map (λ frames. frames.items) lists.new.items ≡ pushed_at (map (λ frames. frames.items) lists.old.items) at frame) }
     ensures err { OnErr result (map (λ frames. frames.items) lists.new.items ≡ map (λ frames. frames.items) lists.old.items) }
     ensures many { length lists.new.items ≡ length lists.old.items }
@@ -45,7 +46,7 @@ fn push_at(lists: &mut Vec<Vec<Bytes>>, at: usize, frame: Bytes) -> Result<(), M
 }
 
 // The newest frame is taken off, if there is one.
-fn drop_last(frames: &mut Vec<Bytes>)
+fn drop_last(frames: &mut Vec<LazyFrame>)
     ensures { frames.new.items ≡ take (length frames.old.items - 1) frames.old.items }
 {
     let length = frames.len();
@@ -78,7 +79,7 @@ impl MadeFrames {
     }
 
     /// The frames that one replica made for another, the oldest first.
-    pub(crate) fn frames(&self, from: u8, to: u8) -> &[Bytes]
+    pub(crate) fn frames(&self, from: u8, to: u8) -> &[LazyFrame]
         ensures { result.now ≡ made_in self.now from to }
     {
         match self.lists.get(self.at(from, to)) {
@@ -104,7 +105,7 @@ impl MadeFrames {
             event: place.event,
             from: place.from,
             to: place.to,
-            bytes: frame.as_slice(),
+            frame,
         })
     }
 
@@ -125,7 +126,7 @@ impl MadeFrames {
 
     // A frame goes to the back of the list of its sender and its receiver, and of the order. For want of memory the table
     // is as before.
-    fn add_one(&mut self, event: u64, from: u8, frame: OutFrame) -> Result<(), Mem>
+    fn add_one(&mut self, event: u64, from: u8, frame: OutFrame<LazyFrame>) -> Result<(), Mem>
         ensures ok { OnOk result (self.new ≡ with_frame self.old event from frame) }
         ensures err { OnErr result (self.new ≡ self.old) }
     {
@@ -139,7 +140,7 @@ impl MadeFrames {
 
     // The newest frame is taken off again.
     fn take_newest(&mut self)
-        ensures { (t : MadeTable) (event from : ℕ) (frame : OutFrame) → self.old ≡ with_frame t event from frame → self.new ≡ t }
+        ensures { (t : MadeTable) (event from : ℕ) (frame : an_out_frame) → self.old ≡ with_frame t event from frame → self.new ≡ t }
     {
         if let Some(place) = self.order.pop() {
             let at = self.at(place.from, place.to);
@@ -151,7 +152,7 @@ impl MadeFrames {
 
     // The newest frames are taken off again, but for the first so many.
     fn take_back(&mut self, count: usize)
-        ensures { (t : MadeTable) (event from : ℕ) (frames : List OutFrame) → length t.order ≡ count
+        ensures { (t : MadeTable) (event from : ℕ) (frames : List an_out_frame) → length t.order ≡ count
             → self.old ≡ with_frames t event from frames → self.new ≡ t }
     {
         for _frame in count..self.count() {
@@ -162,7 +163,12 @@ impl MadeFrames {
     /// Each of these frames, which a replica made in this event, goes to the back of the list of its sender and its
     /// receiver, and of the order. The one error is want of memory, as which more than 2^32 frames in a list count too:
     /// then the table is as before. Where there is no frame, none comes.
-    pub(crate) fn add(&mut self, event: u64, from: u8, frames: Vec<OutFrame>) -> Result<(), Mem>
+    pub(crate) fn add(
+        &mut self,
+        event: u64,
+        from: u8,
+        frames: Vec<OutFrame<LazyFrame>>,
+    ) -> Result<(), Mem>
         ensures ok { OnOk result (self.new ≡ with_frames self.old event from frames.items) }
         ensures err { OnErr result (self.new ≡ self.old) }
         ensures only { OnErr result (frames.items ≢ []) }

@@ -1,7 +1,9 @@
 //! A frame that was made, and where it stands.
 
-/// A frame that a correct replica made: in which event, by whom, for whom, and its bytes.
-#[derive(Clone, Copy, Debug)]
+use keyed_channel::LazyFrame;
+
+/// A frame that a correct replica made: in which event, by whom, for whom, and the frame.
+#[derive(Clone, Copy)]
 pub struct Made<'a> {
     /// The number of the event, from 0.
     pub event: u64,
@@ -9,8 +11,8 @@ pub struct Made<'a> {
     pub from: u8,
     /// The receiver.
     pub to: u8,
-    /// The sealed frame.
-    pub bytes: &'a [u8],
+    /// The sealed frame: its tag is computed once its bytes are asked for.
+    pub frame: &'a LazyFrame,
 }
 
 /// Where a frame that was made stands: in which event it was made, by whom and for whom, and its place in their list.

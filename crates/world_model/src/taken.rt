@@ -18,7 +18,7 @@ ghost use Rattle.world_model.specs.Steps.{is_took, IsInboxFront, IsFrameItem};
 
 use crate::seen::Seen;
 use frame_codec::{BodyFault, read_body, spelled};
-use keyed_channel::frame_parts;
+use keyed_channel::{LazyFrame, frame_parts};
 use layer_api::{Broadcast, Service};
 use replica::Replica;
 use ritas_base::{Coin, FrameVersion, Item, Kind, Mem, Mode, Params};
@@ -163,6 +163,24 @@ pub(crate) fn frame_item(
         Some(parts) => body_item(alloc, p, mode, parts.from, parts.body),
         None => Ok(None),
     }
+}
+
+/// The item that the body of a frame that a channel made spells, as `frame_item` finds it.
+pub(crate) fn lazy_frame_item(
+    alloc: Global,
+    p: &Params,
+    mode: &Mode,
+    seen: &Seen,
+    frame: &LazyFrame,
+) -> Result<Option<Item>, Mem>
+    ensures is { IfOk result (λ found. IsFrameItem p.now mode.now seen.now frame.now found) }
+    ensures only { OnErr result (is_took seen.now ≡ true) }
+{
+    if !is_took(seen) {
+        return Ok(None);
+    }
+    let parts = frame.parts();
+    body_item(alloc, p, mode, parts.from, parts.body)
 }
 
 /// The item, where the event was seen to be taken.

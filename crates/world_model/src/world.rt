@@ -10,10 +10,10 @@ use crate::seats::{Seats, channels};
 use crate::seen::Seen;
 use crate::standing::present;
 use crate::watch::Watch;
-use keyed_channel::Keys;
+use keyed_channel::{Keys, LazyFrame};
 use layer_api::{Broadcast, Service};
 use replica::{Replica, made_by_entry};
-use ritas_base::{Bytes, Coin, Event, Mem, Mode, Params, SenderSet};
+use ritas_base::{Coin, Event, Mem, Mode, Params, SenderSet};
 use std::alloc::Global;
 
 /// A world: its correct replicas, and the frames that they made for each other. A faulty replica has no value here:
@@ -209,8 +209,8 @@ impl<S: Service, E: Broadcast, C: Coin + Drop> World<S, E, C> {
     }
 
     /// The frames that one replica made for another, the oldest first. A faulty one made none, and none makes frames for
-    /// itself.
-    pub fn frames_made(&self, from: u8, to: u8) -> &[Bytes]
+    /// itself. The tag of each is computed once its bytes are asked for.
+    pub fn frames_made(&self, from: u8, to: u8) -> &[LazyFrame]
         ensures is { (w : Setting) (es : List Event)
             → WorldStands (meaning S.stands S.rules S.shown E.stands E.rules E.shown C.bits (λ k. k.me) tags_of) self.now w es
             → from < w.numbers.n → to < w.numbers.n → result.now ≡ frames_from w (states_of w es) from to }

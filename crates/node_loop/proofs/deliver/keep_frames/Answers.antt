@@ -3,7 +3,7 @@ use Rattle.std.specs.List.{All}
 use Rattle.std.proofs.lemmas.Option.{slice_get_read, slice_get_within}
 use Rattle.std.proofs.lemmas.Result.{on_ok_weaker}
 use Rattle.keyed_channel.specs.Lengths.{head_length}
-use Rattle.replica.specs.declared.frame.OutFrame.{OutFrame}
+use Rattle.replica.specs.Out.{OutFrame}
 use Rattle.node_loop.specs.Peers.{keep_all}
 use Rattle.node_loop.specs.PeersStanding.{AreKept, made_as}
 use Rattle.node_loop.specs.Serving.{onto}

@@ -1,7 +1,7 @@
 use Rattle.std.proofs.Common.{◌≤◌, List, length, sym, subst, map, take}
 use Rattle.std.proofs.lemmas.List.{take_all}
 use Rattle.keyed_channel.specs.Lengths.{head_length}
-use Rattle.replica.specs.declared.frame.OutFrame.{OutFrame}
+use Rattle.replica.specs.Out.{OutFrame}
 use Rattle.node_loop.specs.Peers.{Peers}
 use Rattle.node_loop.specs.PeersStanding.{AreKept, made_as}
 use Rattle.node_loop.specs.Recovering.{all_newest}

@@ -2,7 +2,7 @@ use Rattle.std.proofs.Common.{rules, arith, ◌≡◌, ℕ, ◌%◌, ◌^◌, Bo
 use Rattle.keyed_channel.specs.KeyRow.{KeyRow}
 use Rattle.keyed_channel.specs.Frames.{sealed}
 use Rattle.ritas_base.specs.Messages.{reaches}
-use Rattle.replica.specs.declared.frame.OutFrame.{OutFrame}
+use Rattle.replica.specs.Out.{OutFrame}
 use Rattle.replica.specs.Frames.{frame_for, body_of}
 use Rattle.replica.proofs.Sealing.{frames_more, pushed, left_out}
 use Rattle.replica.proofs.sending.seal_each.Goals as goal
@@ -18,7 +18,7 @@ loop-j-preserved c = λ count are.
     (elim c.if-is_receiver.branch [
       | then-is_receiver+in_ok-bytes+in_ok-push w ↦
           let e = are.each c.loop-j.j (omega (arith, ap (λ (x : KeyRow). x.n) c.keys-keys.ensures)) in
-          let bytes : w.in_ok-bytes.bytes ≡ sealed k c.loop-j.j (count c.loop-j.j % 2 ^ 64) (body_of k.me c.args.msg) = cc (w.in_ok-bytes.ensures, w.as_slice.ensures, c.in_ok-body.ensures, e) in
+          let bytes : w.in_ok-bytes.bytes ≡ sealed k c.loop-j.j (count c.loop-j.j % 2 ^ 64) (body_of k.me c.args.msg) = cc (w.in_ok-bytes.ensures, c.in_ok-body.ensures.ok, c.in_ok-text.ensures, e) in
           let frame : List ℕ → OutFrame = λ b. record { to = c.loop-j.j; bytes = b } in
           pushed _ _ _ (frame w.in_ok-bytes.bytes) _ (same ∙ sym (w.if-is_receiver.ensures {u = tt})) (search rules) (ap frame bytes)
       | else-is_receiver w ↦ left_out _ _ _ _ (same ∙ sym (w.if-is_receiver.ensures {u = tt})) (search rules)

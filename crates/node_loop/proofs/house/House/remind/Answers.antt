@@ -1,6 +1,6 @@
 use Rattle.std.proofs.Common.{◌≡◌, List, None, map, refl, ap, sym, subst, ◌∙◌}
 use Rattle.std.proofs.lemmas.Bool.{both_ways}
-use Rattle.replica.specs.declared.frame.OutFrame.{OutFrame}
+use Rattle.replica.specs.Out.{OutFrame}
 use Rattle.node_loop.specs.declared.output.Reply.{Reply}
 use Rattle.node_loop.specs.Peers.{with_mark}
 use Rattle.node_loop.specs.Resending.{asks_for_more}

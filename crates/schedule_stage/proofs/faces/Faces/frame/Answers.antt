@@ -1,4 +1,4 @@
-use Rattle.std.proofs.Common.{ℕ, ◌/◌, List, sym, subst}
+use Rattle.std.proofs.Common.{ℕ, ◌/◌, List, sym, ◌∙◌, subst}
 use Rattle.world_model.specs.FaceWorlds.{faces_world, told_to, IsShownAs}
 use Rattle.schedule_replay.specs.Layers.{layers_by}
 use Rattle.schedule_plan.specs.Plans.{cast_of}
@@ -18,7 +18,7 @@ returns-in_ok-shown-in-Some g c = λ p steps is play faulty below to_below diffe
     let made = c.frames_made.ensures.is (faces_world w) (told_to w k l.face steps) l.stands below to_below in
     let are = face_shows m g.S.Service.rules g.E.Broadcast.rules c.faces_are_replicas.ensures.shown p c.letter.result.now steps a c.args.to play l faulty below to_below differ list made in
     frame_there w k (a / 2) c.args.to number list _ c.in-Some.made.now c.in_ok-shown-in-Some.shown are c.in-Some.ensures.lookup.3.0 c.in-Some.ensures.lookup.1
-    (λ b shows. c.in_ok-shown-in-Some.ensures p steps is below to_below b (subst (λ (x : List ℕ). IsShownAs w k (a / 2) c.args.to number x b) (sym c.as_slice.ensures) shows))
+    (λ b shows. c.in_ok-shown-in-Some.ensures p steps is below to_below b (subst (λ (x : List ℕ). IsShownAs w k (a / 2) c.args.to number x b) (sym (c.as_slice.ensures ∙ c.in_ok-bytes-in-Some.ensures)) shows))
 
 pub returns-in-None : goal.returns-in-None
 returns-in-None g c = λ p steps is play faulty below to_below differ.

@@ -1,5 +1,5 @@
 use Rattle.std.proofs.Common.{◌≡◌, ℕ, ◌-◌, length, List}
-use Rattle.replica.specs.declared.frame.OutFrame.{OutFrame}
+use Rattle.replica.specs.Out.{OutFrame}
 use Rattle.world_model.specs.FramesMade.{MadeTable, with_frames}
 use Rattle.world_model.proofs.TakenBack.{HasMore}
 use Rattle.world_model.proofs.made.MadeFrames.take_back.Given as goal
