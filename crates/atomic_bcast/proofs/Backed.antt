@@ -1,49 +1,25 @@
 -- The identifiers that enough lists have.
-use Rattle.std.specs.Prelude.{◌≡◌, ℕ, ◌≤◌, Bool, true, false, ◌==◌, ◌&&◌, nat_le, List, [], ◌∷◌, ◌++◌, Option, Some, None, is_some, unwrap_or, if◌then◌else◌, refl}
+use Rattle.std.specs.Prelude.{◌≡◌, ℕ, ◌≤◌, Bool, true, false, ◌&&◌, nat_le, List, [], ◌∷◌, ◌++◌, Option, Some, None, is_some, unwrap_or, if◌then◌else◌, refl}
 use Rattle.std.specs.List.{All}
 use Rattle.std.specs.Map.{keys_of}
 use Rattle.std.specs.BTreeMap.{BTreeMap, is_at, get, keys, IsOrdered}
-use Rattle.std.proofs.Common.{sym, ◌∙◌, ap, ap₂, subst, inl, inr, arith, append-nil}
+use Rattle.std.proofs.Common.{sym, ◌∙◌, ap, ap₂, subst, arith, append-nil}
 use Rattle.std.proofs.lemmas.List.Elements.{All-head, All-tail}
-use Rattle.std.proofs.lemmas.Bool.{cases_Bool, or_cases, or_left, or_right, leb-true}
+use Rattle.std.proofs.lemmas.Bool.{leb-true}
 use Rattle.std.proofs.lemmas.List.{append_assoc}
 use Rattle.std.proofs.lemmas.Map.Made.{is_some-lookup}
 use Rattle.ritas_base.specs.declared.id.Id.{Id}
 use Rattle.ritas_base.specs.Members.{member_count}
 use Rattle.layer_api.specs.Service.{has_id}
-use Rattle.frame_codec.specs.Values.{ids_of}
 use Rattle.atomic_bcast.specs.Early.{id_cmp}
 use Rattle.atomic_bcast.specs.Identifiers.{passing_ids, in_order}
-use Rattle.atomic_bcast.specs.Rounds.{backers, entry_ids}
+use Rattle.layer_api.specs.Proposals.{backers}
+use Rattle.atomic_bcast.specs.Rounds.{entry_ids}
 use Rattle.atomic_bcast.specs.Backing.{lists_with}
 use Rattle.atomic_bcast.specs.Laws.Ordered.{in_order_sorted, kept_sorted}
-use Rattle.atomic_bcast.proofs.Pending.{sorted_same, in_order_has, keys_sorted, keys_has}
-use Rattle.atomic_bcast.proofs.LedgerSteps.{kept_has}
-use Rattle.atomic_bcast.proofs.BackingSteps.{as_one, count_cons, no_count}
-
--- ---- who is in some list is among the identifiers
-
-has_front : (xs ys : List Id) (x : Id) → has_id xs x ≡ true → has_id (xs ++ ys) x ≡ true
-has_front (z ∷ xs) ys x h =
-    elim (or_cases (z.origin == x.origin && z.num == x.num) (has_id xs x) h) [
-      | inl here ↦ or_left (z.origin == x.origin && z.num == x.num) (has_id (xs ++ ys) x) here
-      | inr there ↦ or_right (z.origin == x.origin && z.num == x.num) (has_id (xs ++ ys) x) (has_front xs ys x there)
-    ]
-has_front [] ys x h = absurd cc
-
-has_behind : (xs ys : List Id) (x : Id) → has_id ys x ≡ true → has_id (xs ++ ys) x ≡ true
-has_behind [] ys x h = h
-has_behind (z ∷ xs) ys x h = or_right (z.origin == x.origin && z.num == x.num) (has_id (xs ++ ys) x) (has_behind xs ys x h)
-
-backed_stands : (lists : List (List ℕ)) (x : Id) → 1 ≤ backers lists x → has_id (entry_ids lists) x ≡ true
-backed_stands [] x some = absurd (omega (arith, some))
-backed_stands (e ∷ lists) x some =
-    elim (cases_Bool (has_id (ids_of e) x)) [
-      | inl here ↦ has_front (ids_of e) (entry_ids lists) x here
-      | inr out ↦
-          let split = count_cons (λ (l : List ℕ). has_id (ids_of l) x) e lists in
-          has_behind (ids_of e) (entry_ids lists) x (backed_stands lists x (omega (arith, split, ap as_one out, some)))
-    ]
+use Rattle.atomic_bcast.proofs.Pending.{sorted_same, keys_sorted, keys_has}
+use Rattle.atomic_bcast.specs.Laws.ListedIds.{in_order_has, kept_has, backed_stands}
+use Rattle.atomic_bcast.proofs.BackingSteps.{no_count}
 
 -- who is noted for some list is a key
 noted_is_key : (noted : BTreeMap Id ℕ) (x : Id) → 1 ≤ lists_with noted x → has_id (keys noted) x ≡ true

@@ -14,7 +14,7 @@ use Rattle.ritas_base.specs.Quorums.{count_same}
 use Rattle.layer_api.specs.Service.{has_id}
 use Rattle.frame_codec.specs.Values.{ids_in, ids_of, entry_in_front, after_entry, entries_in, len_in}
 use Rattle.atomic_bcast.specs.Early.{id_cmp}
-use Rattle.atomic_bcast.specs.Rounds.{backers}
+use Rattle.layer_api.specs.Proposals.{backers}
 use Rattle.atomic_bcast.specs.Backing.{backing_mask, is_noted, lists_with, NotesList}
 
 abbrev pub as_one : Bool → ℕ

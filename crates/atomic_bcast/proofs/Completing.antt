@@ -14,7 +14,8 @@ use Rattle.layer_api.specs.Vectors.{VectorRules, VectorLaws}
 use Rattle.layer_api.specs.VectorCalls.{VectorShown}
 use Rattle.atomic_bcast.specs.Identifiers.{passing_ids, is_without, in_order, all_pass, append_ids, IsSorted}
 use Rattle.atomic_bcast.specs.Laws.Ordered.{in_order_sorted, kept_sorted}
-use Rattle.atomic_bcast.specs.Rounds.{delivered_ids, wanted, backers, entry_ids, has_command, round_desk, round_ask, rounds}
+use Rattle.layer_api.specs.Proposals.{backers}
+use Rattle.atomic_bcast.specs.Rounds.{delivered_ids, wanted, entry_ids, has_command, round_desk, round_ask, rounds}
 use Rattle.atomic_bcast.specs.Laws.WordsMeet.{delivered_good}
 use Rattle.atomic_bcast.specs.Stepping.{current, log_now, heard_words, words_now}
 use Rattle.atomic_bcast.specs.Ledger.{LedgerStands, IsReady, Between}

@@ -17,7 +17,8 @@ use Rattle.atomic_bcast.specs.Laws.LeastNumber.{least_from}
 use Rattle.atomic_bcast.specs.Ledger.{LedgerStands, IsReady, at_bases, Appending}
 use Rattle.atomic_bcast.specs.declared.ledger.Ledger.{Ledger}
 use Rattle.atomic_bcast.proofs.Ids.{same_test, without_id}
-use Rattle.atomic_bcast.proofs.Pending.{is_same, same_id, itself, keys_has, above_all}
+use Rattle.atomic_bcast.specs.Laws.ListedIds.{is_same, same_id, itself, kept_has}
+use Rattle.atomic_bcast.proofs.Pending.{keys_has, above_all}
 use Rattle.frame_codec.specs.Ids.{IsBelow}
 use Rattle.atomic_bcast.specs.Laws.Ordered.{below_other, append_part}
 
@@ -28,24 +29,6 @@ same_swap x y = same_test _ _ (λ h. turn x y h) (λ h. turn y x h)
     turn a b h =
         let parts = and_parts (a.origin == b.origin) (a.num == b.num) h in
         and_from (b.origin == a.origin) (b.num == a.num) (eq-eqb b.origin a.origin (sym (eqb-true a.origin b.origin parts.0))) (eq-eqb b.num a.num (sym (eqb-true a.num b.num parts.1)))
-
--- those kept are those that pass
-pub kept_has : (test : Id → Bool) (xs : List Id) (z : Id) → has_id (passing_ids test xs) z ≡ (test z && has_id xs z)
-kept_has test [] z = none (test z)
-  where
-    none : (t : Bool) → false ≡ (t && false)
-    none true = refl
-    none false = refl
-kept_has test (x ∷ xs) z = go (test x) (test z) (is_same x z) refl refl refl (kept_has test xs z)
-  where
-    go : (a t s : Bool) → test x ≡ a → test z ≡ t → is_same x z ≡ s → has_id (passing_ids test xs) z ≡ (t && has_id xs z)
-        → has_id (if a then x ∷ passing_ids test xs else passing_ids test xs) z ≡ (t && (s || has_id xs z))
-    go true true true p q e ih = ap (λ b. b || has_id (passing_ids test xs) z) e
-    go true false true p q e ih = absurd (both_ways (test z) q (subst (λ (y : Id). test y ≡ true) (same_id x z e) p))
-    go true t false p q e ih = ap (λ b. b || has_id (passing_ids test xs) z) e ∙ ih
-    go false true true p q e ih = absurd (both_ways (test z) (subst (λ (y : Id). test y ≡ false) (same_id x z e) p) q)
-    go false false true p q e ih = ih
-    go false t false p q e ih = ih
 
 -- ---- whether a command was delivered
 

@@ -14,4 +14,3 @@ pub mod Completing
 pub mod Beginning
 pub mod Taking
 pub mod RoundHearing
-mod Appending

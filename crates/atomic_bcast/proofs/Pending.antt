@@ -1,5 +1,5 @@
 -- A set of identifiers has its keys in the order of the definitions.
-use Rattle.std.specs.Prelude.{◌≡◌, ℕ, ◌<◌, Bool, true, false, ◌==◌, ◌&&◌, ◌||◌, if◌then◌else◌, List, [], ◌∷◌, replicate, slice_index, refl, ◌⊎◌}
+use Rattle.std.specs.Prelude.{◌≡◌, ℕ, ◌<◌, Bool, true, false, ◌||◌, List, [], ◌∷◌, replicate, slice_index, refl}
 use Rattle.std.specs.List.{AllByRecursion, list_any}
 use Rattle.std.specs.List.Sorted.{IsStrictlySortedBy}
 use Rattle.std.specs.declared.cmp.Ordering.{Ordering}
@@ -10,26 +10,16 @@ use Rattle.std.specs.BTreeMap.{is_at}
 use Rattle.std.specs.BTreeSet.{BTreeSet, IsOrdered}
 use Rattle.std.proofs.Common.{sym, ◌∙◌, ap, ap₂, subst, inl, inr}
 use Rattle.std.proofs.lemmas.List.{get_or-replicate}
-use Rattle.std.proofs.lemmas.Bool.{cases_order, and_parts, and_from, or_cases, or_left, or_right, eqb-true, eq-eqb, both_ways}
+use Rattle.std.proofs.lemmas.Bool.{or_cases, or_left, or_right, both_ways}
 use Rattle.ritas_base.specs.declared.id.Id.{Id}
 use Rattle.layer_api.specs.Service.{has_id}
 use Rattle.frame_codec.specs.Ids.{IsBelow}
-use Rattle.atomic_bcast.specs.Identifiers.{is_below, insert_id, in_order, IsSorted}
+use Rattle.atomic_bcast.specs.Identifiers.{in_order, IsSorted}
 use Rattle.atomic_bcast.specs.Early.{id_cmp}
 use Rattle.atomic_bcast.specs.Pending.{HoldsIds, CountsOrigins}
 use Rattle.atomic_bcast.specs.Laws.Ordered.{in_order_sorted, below_trans, below_other, below_from}
+use Rattle.atomic_bcast.specs.Laws.ListedIds.{is_same, same_id, itself, in_order_has}
 use Rattle.atomic_bcast.proofs.Ids.{is_id, same_test}
-
-abbrev pub is_same : Id → Id → Bool
-is_same x y = x.origin == y.origin && x.num == y.num
-
-pub same_id : (x y : Id) → is_same x y ≡ true → x ≡ y
-same_id x y h =
-    let parts = and_parts (x.origin == y.origin) (x.num == y.num) h in
-    ap₂ (λ (o : ℕ) (k : ℕ). record { origin = o; num = k }) (eqb-true x.origin y.origin parts.0) (eqb-true x.num y.num parts.1)
-
-pub itself : (x : Id) → is_same x x ≡ true
-itself x = and_from (x.origin == x.origin) (x.num == x.num) (eq-eqb x.origin x.origin refl) (eq-eqb x.num x.num refl)
 
 -- ---- a sorted list is told by its members
 
@@ -80,55 +70,6 @@ sorted_same (x ∷ xs) (y ∷ ys) s t same =
     let t' : IsSorted (x ∷ ys) = subst (λ (q : Id). IsSorted (q ∷ ys)) (sym head) t in
     let same' = subst (λ (q : Id). (z : Id) → has_id (x ∷ xs) z ≡ has_id (q ∷ ys) z) (sym head) same in
     ap₂ (λ (q : Id) (l : List Id). q ∷ l) head (sorted_same xs ys s.1 t.1 (tails x xs ys s t' same'))
-
--- ---- to put a list in order keeps its members
-
-order_cases : (a b : ℕ) → (a < b) ⊎ ((a ≡ b) ⊎ (b < a))
-order_cases a b =
-    elim (cases_order a b) [
-      | inl e ↦ inr (inl e)
-      | inr (inl l) ↦ inl l
-      | inr (inr l) ↦ inr (inr l)
-    ]
-
--- of two identifiers neither of which is below the other there is one
-neither : (x y : Id) → is_below x y ≡ false → is_below y x ≡ false → x ≡ y
-neither x y e f =
-    elim (order_cases x.origin y.origin) [
-      | inl l ↦ absurd (both_ways _ e (below_from x y (inl l)))
-      | inr (inr l) ↦ absurd (both_ways _ f (below_from y x (inl l)))
-      | inr (inl o) ↦
-          elim (order_cases x.num y.num) [
-            | inl l ↦ absurd (both_ways _ e (below_from x y (inr (sym o, l))))
-            | inr (inr l) ↦ absurd (both_ways _ f (below_from y x (inr (o, l))))
-            | inr (inl k) ↦ ap₂ (λ (a : ℕ) (b : ℕ). record { origin = a; num = b }) o k
-          ]
-    ]
-
-insert_has : (x : Id) (ys : List Id) (z : Id) → has_id (insert_id x ys) z ≡ (is_same x z || has_id ys z)
-insert_has x [] z = refl
-insert_has x (y ∷ ys) z = go (is_below x y) (is_below y x) refl refl (insert_has x ys z)
-  where
-    swap : (a b c : Bool) → (b || (a || c)) ≡ (a || (b || c))
-    swap true true c = refl
-    swap true false c = refl
-    swap false true c = refl
-    swap false false c = refl
-
-    twice : (a b c : Bool) → (a ≡ true → b ≡ true) → (b || c) ≡ (a || (b || c))
-    twice true b c to = ap (λ t. t || c) (to refl)
-    twice false b c to = refl
-
-    go : (a b : Bool) → is_below x y ≡ a → is_below y x ≡ b → has_id (insert_id x ys) z ≡ (is_same x z || has_id ys z)
-        → has_id (if a then x ∷ y ∷ ys else if b then y ∷ insert_id x ys else y ∷ ys) z ≡ (is_same x z || (is_same y z || has_id ys z))
-    go true b e f ih = refl
-    go false true e f ih = ap (λ t. is_same y z || t) ih ∙ swap (is_same x z) (is_same y z) (has_id ys z)
-    go false false e f ih =
-        twice (is_same x z) (is_same y z) (has_id ys z) (λ h. subst (λ (q : Id). is_same q z ≡ true) (neither x y e f) h)
-
-pub in_order_has : (xs : List Id) (z : Id) → has_id (in_order xs) z ≡ has_id xs z
-in_order_has [] z = refl
-in_order_has (x ∷ xs) z = insert_has x (in_order xs) z ∙ ap (λ t. is_same x z || t) (in_order_has xs z)
 
 -- ---- the keys of a set
 

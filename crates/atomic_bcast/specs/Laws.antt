@@ -7,6 +7,10 @@ pub mod CurrentRound
 pub mod NewlySaid
 pub mod LeastNumber
 pub mod Ordered
+pub mod ListedIds
+pub mod Appending
+pub mod Proposed
+pub mod LogLaw
 pub mod AskedFirst
 pub mod CompleteRounds
 pub mod LogGrows

@@ -160,6 +160,14 @@ inside_decides a None (OfBit b k) d q = absurd (none-some d (if_so (b == a && k 
 inside_decides a None (OfValue b k) d q = absurd (none-some d (if_so (b == a && k == 0) None d q))
 inside_decides a None (OfVector b) d q = absurd (none-some d (if_so (b == a) None d q))
 
+-- and where nothing is decided, nothing inside is
+inside_nothing : (a : ℕ) (o : Option (List ℕ)) (x : Instance) → o ≡ None → place_inside a o x ≡ None
+inside_nothing a o x none = go (place_inside a o x) refl
+  where
+    go : (u : Option Decision) → place_inside a o x ≡ u → place_inside a o x ≡ None
+    go None e = e
+    go (Some d) e = let v = inside_decides a o x d e in absurd (none-some v.0 (sym none ∙ v.1))
+
 pub one_place_laws : VectorLaws one_place
 one_place_laws = record {
   says_new = λ at c w session has met. tt;
@@ -187,6 +195,9 @@ one_place_laws = record {
   inside_stays = λ at c w x d session has met q.
       let v = inside_decides at.scope.a (place_decides at.scope.numbers at.scope.a w) x d q in
       ap (λ (o : Option (List ℕ)). place_inside at.scope.a o x) (decides_stays at.scope.numbers at.scope.a c w v.0 v.1 ∙ sym v.1) ∙ q;
+  inside_first = λ at x. inside_nothing at.scope.a (place_decides at.scope.numbers at.scope.a []) x (nothing_there at.scope.numbers at.scope.a [] refl);
+  inside_asked = λ at v x session.
+      inside_nothing at.scope.a (place_decides at.scope.numbers at.scope.a (Ask v ∷ [])) x (nothing_there at.scope.numbers at.scope.a (Ask v ∷ []) refl);
 }
 
 nothing_said : (w : List Word) (y : Say) → HasSay (all_said (λ (u : List Word) (c : Word). []) w) y → ⊥
@@ -221,4 +232,12 @@ one_place_agrees = record {
   entries = λ at right coins steps enough has fed i k v e ci ck q r. absurd (never at right coins steps enough fed i v q);
   insides = λ at right coins steps enough has fed i j x d e ci cj q r.
       absurd (let v = inside_decides at.a (place_decides at.numbers at.a (calls_of i steps)) x d q in never at right coins steps enough fed i v.0 v.1);
+  proposed = λ at right coins steps enough has fed i ci.
+      let none = λ (x : Instance) (d : Decision) (q : place_inside at.a (place_decides at.numbers at.a (calls_of i steps)) x ≡ Some d).
+      (let v = inside_decides at.a (place_decides at.numbers at.a (calls_of i steps)) x d q in never at right coins steps enough fed i v.0 v.1) in
+      record {
+        bits = λ a attempt b q. absurd (none (OfBit a attempt) (Bit b) q);
+        values = λ a attempt v q. absurd (none (OfValue a attempt) (Value v) q);
+        entries = λ a k v e ck q r. absurd (none (OfVector a) (Value v) q);
+      };
 }

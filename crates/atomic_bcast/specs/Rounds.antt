@@ -1,6 +1,6 @@
 -- Atomic broadcast by the words so far, the newest first: commands are broadcast, and in each round a vector of lists of identifiers
 -- is agreed on, which says what is appended to the identifier log.
-use Rattle.std.specs.Prelude.{ℕ, zero, suc, ◌+◌, ◌/◌, Bool, true, false, not, ◌==◌, ◌&&◌, nat_le, nat_lt, if◌then◌else◌, List, [], ◌∷◌, ◌++◌, length, count_by, Option, Some, None, is_some, unwrap_or}
+use Rattle.std.specs.Prelude.{ℕ, zero, suc, ◌+◌, ◌/◌, Bool, true, false, not, ◌==◌, ◌&&◌, nat_le, nat_lt, if◌then◌else◌, List, [], ◌∷◌, ◌++◌, length, Option, Some, None, is_some, unwrap_or}
 use Rattle.std.specs.List.{find, range_with_len}
 use Rattle.ritas_base.specs.declared.slot.Slot.{Slot}
 use Rattle.ritas_base.specs.declared.item.Say.{Say}
@@ -12,7 +12,8 @@ use Rattle.frame_codec.specs.Limits.{most_ids}
 use Rattle.frame_codec.specs.Values.{ids_bytes, ids_of, vector_entries}
 use Rattle.ritas_base.specs.Slots.{command_slot}
 use Rattle.layer_api.specs.Words.{Word, Ask, Hear, is_heard, asked}
-use Rattle.layer_api.specs.Service.{ServiceRules, Seat, Instance, OfBit, OfValue, OfVector, Decision, Spent, Undecided, Decided, has_id, LastVector, vector_with}
+use Rattle.layer_api.specs.Service.{ServiceRules, Seat, Instance, OfBit, OfValue, OfVector, Decision, Spent, Undecided, Decided, LastVector, vector_with}
+use Rattle.layer_api.specs.Proposals.{backers}
 use Rattle.layer_api.specs.Part.{part_of, part_words, says_in}
 use Rattle.layer_api.specs.Multi.{Scope, Desk}
 use Rattle.layer_api.specs.Vectors.{VectorRules, is_vector_slot}
@@ -43,10 +44,6 @@ proposal n ids = first_of_each (most_ids / n) [] (in_order ids)
 abbrev pub entry_ids : List (List ℕ) → List Id
 entry_ids [] = []
 entry_ids (e ∷ es) = ids_of e ++ entry_ids es
-
--- in how many of them an identifier stands
-abbrev pub backers : List (List ℕ) → Id → ℕ
-backers es x = count_by (λ e. has_id (ids_of e) x) es
 
 -- those that stand in f + 1 lists at least, ascending
 abbrev pub wanted : Numbers → List ℕ → List Id

@@ -170,7 +170,7 @@ impl<V: VectorBox> Service for Abc<V> {
     ghost use Rattle.atomic_bcast.specs.Abc.{AtomicStands};
     ghost use Rattle.atomic_bcast.specs.AbcGetters.{atomic_shown};
     ghost use Rattle.atomic_bcast.specs.Laws.Getters.{shows_rules};
-    ghost use Rattle.atomic_bcast.specs.Laws.OneLog.{one_log_law};
+    ghost use Rattle.atomic_bcast.specs.Laws.LogLaw.{one_log_law};
     ghost use Rattle.atomic_bcast.specs.Laws.AtomicWords.{atomic_word_laws};
 
     ghost stands = { AtomicStands V.stands V.rules V.shown };

@@ -5,7 +5,8 @@ ghost use Rattle.std.specs.Int.RustNames.{count_ones};
 ghost use Rattle.ritas_base.specs.declared.id.Id.{Id};
 ghost use Rattle.frame_codec.specs.Values.{ids_of, mask_of, entry_in_front, after_entry, vector_entries};
 ghost use Rattle.atomic_bcast.specs.Identifiers.{passing_ids, in_order};
-ghost use Rattle.atomic_bcast.specs.Rounds.{backers, entry_ids, wanted};
+ghost use Rattle.layer_api.specs.Proposals.{backers};
+ghost use Rattle.atomic_bcast.specs.Rounds.{entry_ids, wanted};
 ghost use Rattle.atomic_bcast.specs.Backing.{lists_with, NotesList};
 
 use frame_codec::id_at;

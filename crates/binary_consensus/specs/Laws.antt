@@ -2,6 +2,7 @@
 -- so these lemmas stand here; no contract reads them.
 pub mod Acceptance
 pub mod Box
+pub mod FirstStep
 pub mod Lock
 pub mod RootWords
 pub mod RootLog

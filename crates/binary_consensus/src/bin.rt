@@ -57,7 +57,7 @@ impl Bin {
 
 impl BinaryBox for Bin {
     ghost use Rattle.binary_consensus.specs.Consensus.{binary};
-    ghost use Rattle.binary_consensus.specs.Laws.OneBit.{one_bit_law};
+    ghost use Rattle.binary_consensus.specs.Laws.FirstStep.{one_bit_law};
     ghost use Rattle.binary_consensus.specs.Laws.Box.{box_laws_hold};
     ghost use Rattle.binary_consensus.specs.Stands.{BinaryStands, binary_shown, shows_box};
 

@@ -4,7 +4,7 @@ ghost use Rattle.layer_api.specs.Binary.{BoxLaws, OneBit};
 ghost use Rattle.binary_consensus.specs.Consensus.{binary};
 
 /// The law of one bit: over every run of correct replicas all decisions are equal, and a bit that one of them decides was
-/// proposed by a correct one.
+/// proposed by a correct one, which said it at its first step.
 ///
 /// It does nothing: its contract is the law.
 pub fn one_bit()

@@ -8,6 +8,8 @@ use Rattle.ritas_base.specs.Numbers.{Numbers}
 use Rattle.layer_api.specs.Runs.{ReplicaStep, calls_of, Has, IsEnough}
 use Rattle.layer_api.specs.Words.{Word, Ask, Hear, asked, is_heard, is_said, bit_byte, AllMet, all_said, AreFresh}
 use Rattle.layer_api.specs.Fed.{Play, IsFedRun}
+use Rattle.layer_api.specs.Service.{OfBit}
+use Rattle.layer_api.specs.Proposals.{SaidProposal, SomeProposed}
 
 -- the replica and the instance that a box is for, and its coin
 pub record Bench : Type 0 where
@@ -109,7 +111,7 @@ binary_play r p a attempt coins = record {
 }
 
 -- the law of a box, of these rules: over every run all decisions of correct replicas are equal, and a bit that one of them
--- decides was proposed by a correct one
+-- decides was proposed by a correct one, which said it at the first step
 pub record OneBit (r : BinaryRules) : Type 0 where
   pub agree : (p : Numbers) (a attempt : ℕ) (is_correct : ℕ → Bool) (coins : ℕ → Slot → Bool) (steps : List (ReplicaStep Word))
       → IsEnough p is_correct → IsFedRun (binary_play r p a attempt coins) is_correct steps
@@ -120,3 +122,7 @@ pub record OneBit (r : BinaryRules) : Type 0 where
       → IsEnough p is_correct → IsFedRun (binary_play r p a attempt coins) is_correct steps
       → (i : ℕ) (b : Bool) → is_correct i ≡ true → r.decision (bench_at p a attempt coins i) (calls_of i steps) ≡ Some b
       → (k : ℕ) × (is_correct k ≡ true) × Has (calls_of k steps) (Ask (bit_byte b ∷ []))
+  pub proposed : (p : Numbers) (a attempt : ℕ) (is_correct : ℕ → Bool) (coins : ℕ → Slot → Bool) (steps : List (ReplicaStep Word))
+      → IsEnough p is_correct → IsFedRun (binary_play r p a attempt coins) is_correct steps
+      → (i : ℕ) (b : Bool) → is_correct i ≡ true → r.decision (bench_at p a attempt coins i) (calls_of i steps) ≡ Some b
+      → SomeProposed is_correct (SaidProposal (binary_play r p a attempt coins) steps) (OfBit a attempt) (bit_byte b ∷ [])

@@ -75,7 +75,7 @@ fresh_newly P before s None (Some v) h = let x = h v refl refl in (x.0, x.1, ref
 fresh_newly P before s (Some x) (Some v) h = tt
 
 -- where something was said before, nothing fresh is said
-fresh_apart : (P : Say → Type 0) (before ys : List Say) (s : Slot) → AreFresh P before ys → is_said before s ≡ true → is_said ys s ≡ false
+pub fresh_apart : (P : Say → Type 0) (before ys : List Say) (s : Slot) → AreFresh P before ys → is_said before s ≡ true → is_said ys s ≡ false
 fresh_apart P before [] s all e = refl
 fresh_apart P before (y ∷ ys) s all e =
     elim (cases_Bool (is_slot y.slot s)) [

@@ -19,6 +19,8 @@ pub mod Windows
 pub mod Service
 pub mod DecisionLaws
 pub mod ServiceCalls
+pub mod Proposals
+pub mod ProposalLaws
 pub mod OneLog
 pub mod OneInstance
 pub mod Binary

@@ -11,6 +11,7 @@ use Rattle.layer_api.specs.Runs.{ReplicaStep, calls_of, Has, IsEnough}
 use Rattle.layer_api.specs.Words.{Word, Ask, Hear, asked, is_heard, AllMet, all_said, AreFresh}
 use Rattle.layer_api.specs.Fed.{Play, IsFedRun, ProposeOne}
 use Rattle.layer_api.specs.Service.{Instance, OfValue, Decision, value_decision, GoesByBit}
+use Rattle.layer_api.specs.Proposals.{SaidProposal, IsProposed}
 
 -- an instance: the numbers and the root service of its session, its round, and its attempt, which is 0 where it has none
 pub record Scope : Type 0 where
@@ -85,6 +86,8 @@ pub record MultiLaws (r : MultiRules) : Type 0 where
   pub inside_bit : (at : Desk) (w : List Word) (a attempt : ℕ) → AreMulti r at w → GoesByBit (r.inside at w) a attempt
   pub inside_stays : (at : Desk) (c : Word) (w : List Word) (x : Instance) (d : Decision) → AreMulti r at (c ∷ w)
       → r.inside at w x ≡ Some d → r.inside at (c ∷ w) x ≡ Some d
+  -- before any word none of them decided anything
+  pub inside_first : (at : Desk) (x : Instance) → r.inside at [] x ≡ None
 
 abbrev pub desk_at : Scope → (ℕ → Slot → Bool) → ℕ → Desk
 desk_at at coins i = record { scope = at; me = i; coin = coins i }
@@ -98,7 +101,8 @@ multi_play r at coins = record {
 
 -- the law of a box, of these rules: over every run all decisions of correct replicas are equal, those for no value too, and so is
 -- what they decided in each instance inside; a value that one of them decides was proposed by a correct one; and where all that
--- correct replicas proposed is equal, none of them decides that no value is
+-- correct replicas proposed is equal, none of them decides that no value is; and what they decided in each instance inside, this one
+-- among them, was proposed to it by correct replicas
 pub record OneDecision (r : MultiRules) : Type 0 where
   pub agree : (at : Scope) (is_correct : ℕ → Bool) (coins : ℕ → Slot → Bool) (steps : List (ReplicaStep Word))
       → IsEnough at.numbers is_correct → IsFedRun (multi_play r at coins) is_correct steps
@@ -115,3 +119,6 @@ pub record OneDecision (r : MultiRules) : Type 0 where
       → IsEnough at.numbers is_correct → IsFedRun (multi_play r at coins) is_correct steps
       → (i j : ℕ) (x : Instance) (d e : Decision) → is_correct i ≡ true → is_correct j ≡ true
       → r.inside (desk_at at coins i) (calls_of i steps) x ≡ Some d → r.inside (desk_at at coins j) (calls_of j steps) x ≡ Some e → d ≡ e
+  pub proposed : (at : Scope) (is_correct : ℕ → Bool) (coins : ℕ → Slot → Bool) (steps : List (ReplicaStep Word))
+      → IsEnough at.numbers is_correct → IsFedRun (multi_play r at coins) is_correct steps → (i : ℕ) → is_correct i ≡ true
+      → IsProposed is_correct (SaidProposal (multi_play r at coins) steps) (r.inside (desk_at at coins i) (calls_of i steps))

@@ -13,6 +13,7 @@ use Rattle.layer_api.specs.Runs.{ReplicaStep, calls_of, Has, IsEnough}
 use Rattle.layer_api.specs.Words.{Word, Ask, Hear, asked, is_heard, AllMet, all_said, AreFresh}
 use Rattle.layer_api.specs.Fed.{Play, IsFedRun}
 use Rattle.layer_api.specs.Service.{Instance, OfValue, OfVector, Decision, Nothing, vector_decision, GoesByBit, IsAttemptOf}
+use Rattle.layer_api.specs.Proposals.{SaidProposal, IsProposed}
 use Rattle.layer_api.specs.Multi.{Scope, Desk, desk_at}
 
 -- the meaning of a box at one desk, by the words so far; the attempt of the desk's scope is 0
@@ -104,6 +105,9 @@ pub record VectorLaws (r : VectorRules) : Type 0 where
       → GoesByBit (r.inside at w) a attempt
   pub inside_stays : (at : Desk) (c : Word) (w : List Word) (x : Instance) (d : Decision) → IsSession at.scope.numbers → HasVectors at.scope
       → AreVector r at (c ∷ w) → r.inside at w x ≡ Some d → r.inside at (c ∷ w) x ≡ Some d
+  -- before any word none of them decided anything, nor where only a proposal was made
+  pub inside_first : (at : Desk) (x : Instance) → r.inside at [] x ≡ None
+  pub inside_asked : (at : Desk) (v : List ℕ) (x : Instance) → IsSession at.scope.numbers → r.inside at (Ask v ∷ []) x ≡ None
 
 -- the boxes of one instance
 abbrev pub vector_play : VectorRules → Scope → (ℕ → Slot → Bool) → Play
@@ -114,7 +118,7 @@ vector_play r at coins = record {
 
 -- the law of a box, of these rules: over every run all decisions of correct replicas are equal, and so are the attempts that decided
 -- them; none is spent; in a vector that one of them decides the entry of a correct replica is that one's proposal; and what they decided
--- in each instance inside is equal
+-- in each instance inside is equal, and was proposed to it by correct replicas
 pub record OneVector (r : VectorRules) : Type 0 where
   pub agree : (at : Scope) (is_correct : ℕ → Bool) (coins : ℕ → Slot → Bool) (steps : List (ReplicaStep Word))
       → IsEnough at.numbers is_correct → HasVectors at → IsFedRun (vector_play r at coins) is_correct steps
@@ -135,3 +139,6 @@ pub record OneVector (r : VectorRules) : Type 0 where
       → IsEnough at.numbers is_correct → HasVectors at → IsFedRun (vector_play r at coins) is_correct steps
       → (i j : ℕ) (x : Instance) (d e : Decision) → is_correct i ≡ true → is_correct j ≡ true
       → r.inside (desk_at at coins i) (calls_of i steps) x ≡ Some d → r.inside (desk_at at coins j) (calls_of j steps) x ≡ Some e → d ≡ e
+  pub proposed : (at : Scope) (is_correct : ℕ → Bool) (coins : ℕ → Slot → Bool) (steps : List (ReplicaStep Word))
+      → IsEnough at.numbers is_correct → HasVectors at → IsFedRun (vector_play r at coins) is_correct steps → (i : ℕ) → is_correct i ≡ true
+      → IsProposed is_correct (SaidProposal (vector_play r at coins) steps) (r.inside (desk_at at coins i) (calls_of i steps))

@@ -4,6 +4,7 @@ pub mod Agreement
 pub mod Inside
 pub mod OneDecision
 pub mod OneProposal
+pub mod Proposed
 pub mod RootLog
 pub mod RootWords
 pub mod Box

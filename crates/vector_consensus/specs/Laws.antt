@@ -5,6 +5,7 @@ pub mod Entries
 pub mod LastAttempt
 pub mod OneVector
 pub mod Proposals
+pub mod Proposed
 pub mod RootLog
 pub mod RootWords
 pub mod SameInside

@@ -2,7 +2,7 @@
 -- order. In a run one of these is correct, and it said nothing; so no correct replica decides.
 use Rattle.std.specs.Prelude.{◌≡◌, ℕ, ◌+◌, ◌<◌, ◌≤◌, nat_lt, ◌==◌, ◌&&◌, ◌||◌, Bool, true, false, List, [], ◌∷◌, length, Option, Some, None, is_some, option_map, if◌then◌else◌, refl}
 use Rattle.std.proofs.Common.{sym, ◌∙◌, ap, inl, inr, arith}
-use Rattle.std.proofs.lemmas.Bool.{lt-ltb, le-ltb, ltb-true, or_left, or_right, and_parts, and_from, eq-eqb, cases_order}
+use Rattle.std.proofs.lemmas.Bool.{lt-ltb, cond_both, le-ltb, ltb-true, or_left, or_right, and_parts, and_from, eq-eqb, cases_order}
 use Rattle.std.proofs.lemmas.Option.{none-some, cond_some}
 use Rattle.std.proofs.lemmas.List.FromFn.{length-range_with_len}
 use Rattle.ritas_base.specs.declared.slot.Slot.{Slot}
@@ -11,7 +11,7 @@ use Rattle.ritas_base.specs.History.{replicas}
 use Rattle.ritas_base.specs.SlotOrder.{is_slot}
 use Rattle.ritas_base.specs.Quorums.{count_first, meet_two}
 use Rattle.layer_api.specs.Runs.{ReplicaStep, calls_of, IsEnough}
-use Rattle.layer_api.specs.Service.{Instance, OfBit, OfValue, OfVector, Decision, Bit, Nothing, value_decision}
+use Rattle.layer_api.specs.Service.{Instance, OfBit, OfValue, OfVector, Decision, Bit, Nothing, Value, value_decision}
 use Rattle.layer_api.specs.DecisionLaws.{if_so}
 use Rattle.layer_api.specs.Words.{Word, Ask, Hear, asked, is_heard, HasSay, all_said}
 use Rattle.layer_api.specs.Fed.{IsFedRun}
@@ -87,6 +87,11 @@ nothing_inside at (OfBit a k) d q = none-some d (if_so (a == at.a && k == at.att
 nothing_inside at (OfValue a k) d q = none-some d (if_so (a == at.a && k == at.attempt) None d q)
 nothing_inside at (OfVector a) d q = none-some d q
 
+inside_none : (at : Scope) (x : Instance) → refusing_inside at false x ≡ None
+inside_none at (OfBit a k) = cond_both (a == at.a && k == at.attempt) None None (λ (o : Option Decision). o ≡ None) (λ e. refl) (λ e. refl)
+inside_none at (OfValue a k) = cond_both (a == at.a && k == at.attempt) None None (λ (o : Option Decision). o ≡ None) (λ e. refl) (λ e. refl)
+inside_none at (OfVector a) = refl
+
 none_first : (at : Desk) → refusing.decision at [] ≡ None
 none_first at = ap (λ (b : Bool). if b then Some None else None) (le-ltb at.scope.numbers.f 0 (omega arith))
 
@@ -120,6 +125,7 @@ refusing_laws = record {
       (and_from (at.scope.a == at.scope.a) _ (eq-eqb at.scope.a at.scope.a refl) (eq-eqb at.scope.attempt at.scope.attempt refl)) ∙ refused (refuses at.scope w);
   inside_bit = λ at w a k met o q. by_bit (a == at.scope.a && k == at.scope.attempt) (refuses at.scope w) o q;
   inside_stays = λ at c w x d met q. inside_stays at.scope (refuses at.scope w) (refuses at.scope (c ∷ w)) x d (still_refuses at.scope c w) q;
+  inside_first = λ at x. ap (λ (b : Bool). refusing_inside at.scope b x) (le-ltb at.scope.numbers.f 0 (omega arith)) ∙ inside_none at.scope x;
 }
 
 nothing_said : (w : List Word) (y : Say) → HasSay (all_said (λ (u : List Word) (c : Word). []) w) y → ⊥
@@ -158,4 +164,9 @@ refusing_agrees = record {
   valid = λ at right coins steps enough fed i v ci q. absurd (none-some v (cond_some _ None (Some v) q).1);
   decides = λ at right coins steps enough fed alone i ci q. never at right coins steps enough fed i (cond_some _ None None q).0;
   insides = λ at right coins steps enough fed i j x d e ci cj q r. absurd (inside_never at right coins steps enough fed i x d q);
+  proposed = λ at right coins steps enough fed i ci. record {
+    bits = λ a k b q. absurd (inside_never at right coins steps enough fed i (OfBit a k) (Bit b) q);
+    values = λ a k v q. absurd (inside_never at right coins steps enough fed i (OfValue a k) (Value v) q);
+    entries = λ a k v e ck q r. absurd (inside_never at right coins steps enough fed i (OfVector a) (Value v) q);
+  };
 }

@@ -150,7 +150,7 @@ module _ (v : VectorRules) (laws : VectorLaws v) (seat : Seat) (session : IsSess
           let l = ltb-true s.a rounds o.0 in
           absurd (omega (arith, l, same, over))
 
-  words_over : (a : ℕ) (w : List Word) → rounds ≤ a → AreProper (atomic v) seat w → words a w ≡ newly_asked None (ask a w)
+  pub words_over : (a : ℕ) (w : List Word) → rounds ≤ a → AreProper (atomic v) seat w → words a w ≡ newly_asked None (ask a w)
   words_over a [] over proper = sym (ap (λ (o : Option (List ℕ)). newly_asked None o) (round_nothing seat (log_below v seat a)))
   words_over a (c ∷ w) over proper = go (ask a w) refl (words_over a w over proper.1)
     where

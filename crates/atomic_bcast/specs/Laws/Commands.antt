@@ -290,4 +290,11 @@ command_log = record {
   decisions = λ p mode is_correct coins steps run i j x d e ci cj a b. absurd cc;
   bits = λ p mode is_correct coins steps run i b ci a. absurd cc;
   proposals = λ p mode is_correct coins steps run four i v ci a. absurd cc;
+  proposed = λ p mode is_correct coins steps run i ci. record {
+    bits = λ a attempt b q. absurd cc;
+    values = λ a attempt v q. absurd cc;
+    entries = λ a k v e ck q r. absurd cc;
+  };
+  entries = λ p mode is_correct coins steps run five i k v e ci ck a r. absurd cc;
+  appended = λ p mode is_correct coins steps run i x ci there. absurd cc;
 }

@@ -1,15 +1,16 @@
--- The law of one log of atomic broadcast, over any vector consensus with its laws.
-use Rattle.std.specs.Prelude.{◌≡◌, ℕ, zero, suc, ◌≤◌, Bool, true, false, if◌then◌else◌, List, Some, refl, ◌⊎◌}
+-- What the law of one log of atomic broadcast rests on, over any vector consensus with its laws: logs, the instances inside, and
+-- last vectors.
+use Rattle.std.specs.Prelude.{◌≡◌, ℕ, zero, suc, ◌≤◌, Bool, true, List, Some, refl, ◌⊎◌}
 use Rattle.std.proofs.Common.{sym, ◌∙◌, ap, ap₂, subst, inl, inr, arith}
-use Rattle.std.proofs.lemmas.Bool.{eqb-true, cases_order}
+use Rattle.std.proofs.lemmas.Bool.{cases_order}
 use Rattle.ritas_base.specs.declared.slot.Slot.{Slot}
 use Rattle.ritas_base.specs.declared.id.Id.{Id}
 use Rattle.ritas_base.specs.declared.mode.Mode.{Mode}
 use Rattle.ritas_base.specs.Numbers.{Numbers, IsSession}
 use Rattle.layer_api.specs.Runs.{ReplicaStep, calls_of, IsEnough}
 use Rattle.layer_api.specs.Words.{Word}
-use Rattle.layer_api.specs.Service.{Seat, Instance, Decision, Bit, Spent, Undecided, Decided, IsPart, LastVector}
-use Rattle.layer_api.specs.OneLog.{seat_at, service_play, OneLog}
+use Rattle.layer_api.specs.Service.{Seat, Instance, Decision, IsPart, LastVector}
+use Rattle.layer_api.specs.OneLog.{seat_at, service_play}
 use Rattle.layer_api.specs.Fed.{IsFedRun}
 use Rattle.layer_api.specs.FedLaws.{met}
 use Rattle.layer_api.specs.Multi.{desk_at}
@@ -168,34 +169,6 @@ module _ (v : VectorRules) (laws : VectorLaws v) (one : OneVector v) (p : Number
       let attempt = one.attempts (round_scope p a) is_correct coins (run a) enough refl (run_fed a) i j x.attempt y.attempt ci cj
       (in_run a i (λ w. v.attempt (round_desk (seat i) a) w ≡ Some x.attempt) h.attempt) (in_run a j (λ w. v.attempt (round_desk (seat j) a) w ≡ Some y.attempt) k.attempt) in
       same_last x y same attempt (same_vector a i j x.value y.value ci cj h.value k.value)
-
--- ---- the laws
-
--- the one outcome is that a vector consensus is spent
-ending_is : (b : Bool) (d : Decision) → (if b then Decided Spent else Undecided) ≡ Decided d → d ≡ Spent
-ending_is true d q = cc
-ending_is false d q = absurd cc
-
-spent_is : (b : Bool) → (if b then Decided Spent else Undecided) ≡ Decided Spent → b ≡ true
-spent_is true q = refl
-spent_is false q = absurd cc
-
-no_bit : (b : Bool) → Bit b ≡ Spent → ⊥
-no_bit b e = cc
-
--- over every run, of two logs one is a part of the other, and what instances decided is equal
-pub one_log_law : (v : VectorRules) → VectorLaws v → OneVector v → OneLog (atomic v)
-one_log_law v laws one = record {
-  logs = λ p mode is_correct coins steps run i j ci cj. logs v laws one p mode is_correct coins run.enough steps run.fed i j ci cj;
-  outcomes = λ p mode is_correct coins steps run i j d e ci cj q r. ending_is _ d q ∙ sym (ending_is _ e r);
-  decisions = λ p mode is_correct coins steps run i j x d e ci cj q r. decisions v laws one p mode is_correct coins run.enough steps run.fed i j x d e ci cj q r;
-  bits = λ p mode is_correct coins steps run i b ci q. absurd (no_bit b (ending_is _ (Bit b) q));
-  proposals = λ p mode is_correct coins steps run four i x ci q. absurd (let e = eqb-true mode.root 6 run.serves in omega (arith, e, four));
-  unspent = λ p mode is_correct coins steps run i ci q.
-      unspent v laws one p mode is_correct coins run.enough steps run.fed (complete_of v (seat_at (record { rules = atomic v; numbers = p; mode = mode; is_correct = is_correct; coins = coins }) i) rounds (calls_of i steps)) i ci
-      (spent_is _ q);
-  last_vectors = λ p mode is_correct coins steps run i j x y ci cj q r same. one_last v laws one p mode is_correct coins run.enough steps run.fed i j x y ci cj q r same;
-}
 
 -- vectors of one round are equal, over every run, by the laws of their boxes
 pub vectors_agree : (v : VectorRules) → VectorLaws v → OneVector v → RoundVectorsAgree v

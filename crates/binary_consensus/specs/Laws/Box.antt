@@ -152,7 +152,7 @@ says_out at (suc n) t w c v l e f =
     ]
 
 -- what is said at a step was put out
-put_out : (at : Bench) (t : ℕ) (w : List Word) (v : ℕ) → t < steps → vote_said at t w ≡ Some v
+pub put_out : (at : Bench) (t : ℕ) (w : List Word) (v : ℕ) → t < steps → vote_said at t w ≡ Some v
     → HasSay (bits_said binary at w) (record { slot = line_slot at t at.me; value = v ∷ [] })
 put_out at t [] v l q = clash at (vote_said at t []) v (silent at t) q
 put_out at t (c ∷ w) v l q = go (vote_said at t w) refl (λ r. put_out at t w v l r)

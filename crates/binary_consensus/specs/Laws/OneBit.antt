@@ -13,7 +13,7 @@ use Rattle.layer_api.specs.Runs.{ReplicaStep, calls_of, Has, IsEnough}
 use Rattle.layer_api.specs.Words.{Word, Ask, Hear, HasSay, value_at, bit_byte}
 use Rattle.layer_api.specs.Fed.{Play, IsFedRun}
 use Rattle.layer_api.specs.FedLaws.{some_if, say_append, say_later, shortest_at, value_stays, heard_met, one_value, heard_said, met}
-use Rattle.layer_api.specs.Binary.{Bench, MayBit, bench_at, binary_play, vote_limit, bits_said, OneBit}
+use Rattle.layer_api.specs.Binary.{Bench, MayBit, bench_at, binary_play, vote_limit, bits_said}
 use Rattle.bracha_validation.specs.Votes.{votes}
 use Rattle.bracha_validation.specs.PickLaws.{no_bit, length_three}
 use Rattle.bracha_validation.specs.RuleLaws.{FirstSays, first_gives}
@@ -257,9 +257,10 @@ module _ (p : Numbers) (a attempt : ℕ) (is_correct : ℕ → Bool) (coins : �
           ]
         ]
 
-    pub valid : (i : ℕ) (b : Bool) → is_correct i ≡ true → binary_decision (bench i) (calls_of i xs) ≡ Some b
-        → (k : ℕ) × (is_correct k ≡ true) × Has (calls_of k xs) (Ask (bit_byte b ∷ []))
-    valid i b ci q =
+    -- a bit that is decided is the vote that a correct replica proposed
+    pub valid_vote : (i : ℕ) (b : Bool) → is_correct i ≡ true → binary_decision (bench i) (calls_of i xs) ≡ Some b
+        → (k : ℕ) × (is_correct k ≡ true) × (proposed_vote (calls_of k xs) ≡ Some (bit_byte b))
+    valid_vote i b ci q =
         elim (none_or_some (Proposes b) p.n) [
           | inl none ↦
               let x = decided i ci steps (calls_of i xs) b (all_words i) q in
@@ -267,7 +268,7 @@ module _ (p : Numbers) (a attempt : ℕ) (is_correct : ℕ → Bool) (coins : �
               absurd (other b (Lock.locked_decides p few View one 1 x.0 (not b) b x.1.0 (unproposed b none) late x.1.1))
           | inr some ↦
               let e = and_parts (is_correct some.0) _ some.1 in
-              (some.0, e.0, proposal_has (calls_of some.0 xs) (bit_byte b) (holds_is (proposed_vote (calls_of some.0 xs)) (bit_byte b) e.1))
+              (some.0, e.0, holds_is (proposed_vote (calls_of some.0 xs)) (bit_byte b) e.1)
         ]
       where
         other : (d : Bool) → bit_byte d ≡ bit_byte (not d) → ⊥
@@ -277,8 +278,6 @@ module _ (p : Numbers) (a attempt : ℕ) (is_correct : ℕ → Bool) (coins : �
         third_late : (t : ℕ) → step_of t ≡ 3 → 1 ≤ t
         third_late t e = omega arith
 
-pub one_bit_law : OneBit binary
-one_bit_law = record {
-  agree = λ p a attempt is_correct coins xs enough fed. agree p a attempt is_correct coins xs enough fed;
-  valid = λ p a attempt is_correct coins xs enough fed. valid p a attempt is_correct coins xs enough fed;
-}
+    pub valid : (i : ℕ) (b : Bool) → is_correct i ≡ true → binary_decision (bench i) (calls_of i xs) ≡ Some b
+        → (k : ℕ) × (is_correct k ≡ true) × Has (calls_of k xs) (Ask (bit_byte b ∷ []))
+    valid i b ci q = let k = valid_vote i b ci q in (k.0, k.1, proposal_has (calls_of k.0 xs) (bit_byte b) k.2)

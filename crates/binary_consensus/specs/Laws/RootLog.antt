@@ -1,8 +1,8 @@
 -- The law of one log of binary consensus as a root service, from the law of one bit of its box: a run of the service is one of
 -- the box.
 use Rattle.std.specs.Prelude.{◌≡◌, ℕ, Bool, true, false, ◌==◌, ◌&&◌, if◌then◌else◌, List, [], ◌∷◌, Option, Some, None, option_map, refl}
-use Rattle.std.proofs.Common.{sym, ◌∙◌, ap, inl, arith}
-use Rattle.std.proofs.lemmas.Bool.{eqb-true}
+use Rattle.std.proofs.Common.{sym, ◌∙◌, ap, subst, inl, arith}
+use Rattle.std.proofs.lemmas.Bool.{and_parts, eqb-true}
 use Rattle.ritas_base.specs.declared.slot.Slot.{Slot}
 use Rattle.ritas_base.specs.declared.mode.Mode.{Mode}
 use Rattle.ritas_base.specs.Numbers.{Numbers}
@@ -12,6 +12,7 @@ use Rattle.layer_api.specs.Words.{Word, Ask, bit_byte}
 use Rattle.layer_api.specs.Fed.{IsFedRun}
 use Rattle.layer_api.specs.FedLaws.{same_fed}
 use Rattle.layer_api.specs.OneLog.{Session, seat_at, service_play, IsRunOf, OneLog}
+use Rattle.layer_api.specs.Proposals.{SaidProposal, SomeProposed, IsProposed}
 use Rattle.layer_api.specs.Binary.{BinaryRules, Bench, bench_at, binary_play, OneBit}
 use Rattle.binary_consensus.specs.Root.{binary_ending, binary_decided_in, binary_root}
 use Rattle.binary_consensus.specs.Laws.RootWords.{are_votes}
@@ -30,6 +31,19 @@ decided_is o (OfBit a attempt) d e = go (a == 0 && attempt == 0) o e
     go true (Some y) e = (y, refl, cc)
 decided_is o (OfValue a attempt) d e = absurd cc
 decided_is o (OfVector a) d e = absurd cc
+
+-- a bit that is decided is that of the one instance
+own_bit : (a attempt : ℕ) (o : Option Bool) (x : Bool) → binary_decided_in o (OfBit a attempt) ≡ Some (Bit x) → (a ≡ 0) × (attempt ≡ 0) × (o ≡ Some x)
+own_bit a attempt o x q = go (a == 0 && attempt == 0) refl o q
+  where
+    go : (c : Bool) → (a == 0 && attempt == 0) ≡ c → (z : Option Bool) → (if c then option_map Bit z else None) ≡ Some (Bit x)
+        → (a ≡ 0) × (attempt ≡ 0) × (z ≡ Some x)
+    go false e z q = absurd cc
+    go true e None q = absurd cc
+    go true e (Some y) q =
+        let h = and_parts (a == 0) (attempt == 0) e in
+        let same : y ≡ x = cc in
+        (eqb-true a 0 h.0, eqb-true attempt 0 h.1, ap Some same)
 
 bit_same : (x y : Bool) → Bit x ≡ Bit y → x ≡ y
 bit_same x y e = cc
@@ -77,6 +91,24 @@ module _ (b : BinaryRules) (one : OneBit b) (p : Numbers) (mode : Mode) (is_corr
       let m = ending_is _ _ (Bit x) q in
       one.valid p 0 0 is_correct coins steps run.enough voted i x ci (m.1 ∙ ap Some (sym (bit_same x m.0 m.2)))
 
+  -- what the instance decided a correct replica said at its first step
+  said_bit : (i a attempt : ℕ) (x : Bool) → is_correct i ≡ true
+      → (binary_root b).decided (seat_at session i) (calls_of i steps) (OfBit a attempt) ≡ Some (Bit x)
+      → SomeProposed is_correct (SaidProposal (service_play session) steps) (OfBit a attempt) (bit_byte x ∷ [])
+  said_bit i a attempt x ci q =
+      let y = own_bit a attempt (b.decision (bench i) (calls_of i steps)) x q in
+      subst (λ (k : ℕ). SomeProposed is_correct (SaidProposal (service_play session) steps) (OfBit k attempt) (bit_byte x ∷ [])) (sym y.0)
+      (subst (λ (k : ℕ). SomeProposed is_correct (SaidProposal (service_play session) steps) (OfBit 0 k) (bit_byte x ∷ [])) (sym y.1)
+      (one.proposed p 0 0 is_correct coins steps run.enough voted i x ci y.2))
+
+  pub decisions_proposed : (i : ℕ) → is_correct i ≡ true
+      → IsProposed is_correct (SaidProposal (service_play session) steps) ((binary_root b).decided (seat_at session i) (calls_of i steps))
+  decisions_proposed i ci = record {
+    bits = λ a attempt x q. said_bit i a attempt x ci q;
+    values = λ a attempt v q. absurd cc;
+    entries = λ a k v e ck q r. absurd cc;
+  }
+
 spent_bit : (b : Bool) → Spent ≡ Bit b → ⊥
 spent_bit b e = cc
 
@@ -89,4 +121,7 @@ root_one_log b one = record {
   proposals = λ p mode is_correct coins steps run four i v ci q. absurd (let e = eqb-true mode.root 3 run.serves in omega (arith, e, four));
   unspent = λ p mode is_correct coins steps run i ci q. absurd (let x = ending_is _ _ Spent q in spent_bit x.0 x.2);
   last_vectors = λ p mode is_correct coins steps run i j x y ci cj q. absurd cc;
+  proposed = λ p mode is_correct coins steps run i ci. decisions_proposed b one p mode is_correct coins steps run i ci;
+  entries = λ p mode is_correct coins steps run five i k v e ci ck q r. absurd (let e = eqb-true mode.root 3 run.serves in omega (arith, e, five));
+  appended = λ p mode is_correct coins steps run i x ci there. absurd cc;
 }

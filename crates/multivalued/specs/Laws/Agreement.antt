@@ -74,7 +74,7 @@ verdict_is (Some false) s d q = inl (refl, cc)
 verdict_is (Some true) None d q = absurd cc
 verdict_is (Some true) (Some v) d q = inr (v, refl, refl, cc)
 
-mapped_in : {A : Type 0} (f : A → Decision) (c : Bool) (z : Option A) (d : Decision) → (if c then option_map f z else None) ≡ Some d
+pub mapped_in : {A : Type 0} (f : A → Decision) (c : Bool) (z : Option A) (d : Decision) → (if c then option_map f z else None) ≡ Some d
     → (y : A) × (z ≡ Some y) × (d ≡ f y)
 mapped_in f false z d e = absurd cc
 mapped_in f true None d e = absurd cc
@@ -271,16 +271,20 @@ module _ (b : BinaryRules) (laws : BoxLaws b) (one : OneBit b) (at : Scope) (is_
   pub said_more : (k : ℕ) (c : Word) (w : List Word) (y : Say) → HasSay ((multi_box_play b at coins).said k w) y → HasSay ((multi_box_play b at coins).said k (c ∷ w)) y
   said_more k c w y h = say_later ((multivalued b).says (multi_desk b at coins k) w c) _ y h
 
-  -- a correct replica whose INIT was heard with v proposed v
-  asked_there : (v : List ℕ) (d : IsBacked v) (mask k : ℕ) → (has_member mask k && has_init at d.prefix v k) ≡ true → is_correct k ≡ true → Has (words_of_replica k) (Ask v)
-  asked_there v d mask k p ck =
-      let h = is_value_is v (init at d.prefix k) (and_parts (has_member mask k) (has_init at d.prefix v k) p).1 in
-      let s = heard_said (multi_box_play b at coins) is_correct said_more xs fed d.who (init_slot at k) v (d.past.value (init_slot at k) v h) ck in
-      proposed_has (words_of_replica k) v (init_said b at coins laws k (words_of_replica k) v (whole k).met s)
+  -- a correct replica said v in its INIT
+  abbrev pub SaysInit : List ℕ → Type 0
+  SaysInit v = (k : ℕ) × (is_correct k ≡ true) × HasSay ((multi_box_play b at coins).said k (words_of_replica k)) (record { slot = init_slot at k; value = v })
 
-  -- a backed value was proposed by a correct replica
-  backed_asked : (v : List ℕ) → IsBacked v → (k : ℕ) × (is_correct k ≡ true) × Has (words_of_replica k) (Ask v)
-  backed_asked v d =
+  -- a correct replica whose INIT was heard with v said v
+  said_there : (v : List ℕ) (d : IsBacked v) (mask k : ℕ) → (has_member mask k && has_init at d.prefix v k) ≡ true → is_correct k ≡ true
+      → HasSay ((multi_box_play b at coins).said k (words_of_replica k)) (record { slot = init_slot at k; value = v })
+  said_there v d mask k p ck =
+      let h = is_value_is v (init at d.prefix k) (and_parts (has_member mask k) (has_init at d.prefix v k) p).1 in
+      heard_said (multi_box_play b at coins) is_correct said_more xs fed d.who (init_slot at k) v (d.past.value (init_slot at k) v h) ck
+
+  -- a backed value was said by a correct replica
+  backed_said : (v : List ℕ) → IsBacked v → SaysInit v
+  backed_said v d =
       let few = enough.session.enough in
       let many = enough.many in
       let l = d.many in
@@ -289,14 +293,21 @@ module _ (b : BinaryRules) (laws : BoxLaws b) (one : OneBit b) (at : Scope) (is_
       let x = valid_inits at d.prefix (value_at d.prefix (vect_slot at m.0)) v (of_true v (valid at d.prefix m.0) m.1) in
       let y = x.1 in
       let t = meet_two (λ k. has_member x.0 k && has_init at d.prefix v k) is_correct (replicas at.numbers.n) (omega (arith, few, many, y, z)) in
-      (t.member, t.second, asked_there v d x.0 t.member t.first t.second)
+      (t.member, t.second, said_there v d x.0 t.member t.first t.second)
 
-  valid_by : (i : ℕ) (v : List ℕ) → ByBit i (Some v) → (k : ℕ) × (is_correct k ≡ true) × Has (words_of_replica k) (Ask v)
-  valid_by i v (Zero p q) = absurd cc
-  valid_by i v (One u p k q) = backed_asked v (let e : u ≡ v = cc in subst IsBacked e k)
+  said_by : (i : ℕ) (v : List ℕ) → ByBit i (Some v) → SaysInit v
+  said_by i v (Zero p q) = absurd cc
+  said_by i v (One u p k q) = backed_said v (let e : u ≡ v = cc in subst IsBacked e k)
 
+  -- so was a value that is decided
+  pub value_said : (i : ℕ) (v : List ℕ) → is_correct i ≡ true → decided i ≡ Some (Some v) → SaysInit v
+  value_said i v ci q = said_by i v (by_bit i (Some v) ci q)
+
+  -- and that one proposed it
   pub valid_value : (i : ℕ) (v : List ℕ) → is_correct i ≡ true → decided i ≡ Some (Some v) → (k : ℕ) × (is_correct k ≡ true) × Has (words_of_replica k) (Ask v)
-  valid_value i v ci q = valid_by i v (by_bit i (Some v) ci q)
+  valid_value i v ci q =
+      let s = value_said i v ci q in
+      (s.0, s.1, proposed_has (words_of_replica s.0) v (init_said b at coins laws s.0 (words_of_replica s.0) v (whole s.0).met s.2))
 
   -- ---- the binary instance
 

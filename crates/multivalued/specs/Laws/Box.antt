@@ -318,6 +318,18 @@ module _ (b : BinaryRules) (laws : BoxLaws b) (at : Desk) where
             subst (λ (u : List ℕ). Is (class3 scope.numbers scope.root) u) e (supported_good session t.0 x.0 t.1 x.2)
       ]
 
+-- before any word nothing is decided
+none_mapped : {A : Type 0} (f : A → Decision) (c : Bool) (o : Option A) → o ≡ None → (if c then option_map f o else None) ≡ None
+none_mapped f true o e = ap (option_map f) e
+none_mapped f false o e = refl
+
+inside_first : (b : BinaryRules) → BoxLaws b → (at : Desk) (x : Instance) → (multivalued b).inside at [] x ≡ None
+inside_first b laws at (OfBit a t) = none_mapped Bit (a == at.scope.a && t == at.scope.attempt) (b.decision (bench_of at) []) (laws.decision_first (bench_of at))
+inside_first b laws at (OfValue a t) =
+    none_mapped value_decision (a == at.scope.a && t == at.scope.attempt) (multi_decision b at [])
+    (ap (λ (o : Option Bool). multi_verdict o (supported at.scope [])) (laws.decision_first (bench_of at)))
+inside_first b laws at (OfVector a) = refl
+
 -- before any word nothing is open
 none_open : (a b : Bool) → (a && (if b then false else false)) ≡ false
 none_open true true = refl
@@ -336,4 +348,5 @@ multi_laws_law b laws = record {
   inside_own = λ at w. inside_own b laws at w;
   inside_bit = λ at w a t m. inside_bit b laws at w a t m;
   inside_stays = λ at c w x d m q. inside_stays b laws at c w x d m q;
+  inside_first = λ at x. inside_first b laws at x;
 }

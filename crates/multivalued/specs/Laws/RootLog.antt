@@ -1,6 +1,6 @@
 -- The laws of multi-valued consensus as a root service, from those of its box. The box has the service's own words.
 use Rattle.std.specs.Prelude.{◌≡◌, ℕ, Bool, true, ◌==◌, ◌&&◌, if◌then◌else◌, List, [], Option, Some, None, refl}
-use Rattle.std.proofs.Common.{sym, ◌∙◌, ap, subst, inl}
+use Rattle.std.proofs.Common.{sym, ◌∙◌, ap, subst, inl, arith}
 use Rattle.std.proofs.lemmas.Bool.{and_parts, eqb-true}
 use Rattle.ritas_base.specs.declared.slot.Slot.{Slot}
 use Rattle.ritas_base.specs.declared.mode.Mode.{Mode}
@@ -15,6 +15,7 @@ use Rattle.layer_api.specs.OneLog.{Session, seat_at, service_play, IsRunOf, OneL
 use Rattle.layer_api.specs.Fed.{IsFedRun}
 use Rattle.layer_api.specs.FedLaws.{same_fed}
 use Rattle.layer_api.specs.OneInstance.{not_given}
+use Rattle.layer_api.specs.Proposals.{SaidProposal, IsProposed}
 use Rattle.layer_api.specs.Multi.{Scope, desk_at, is_multi_slot, MayMulti, MultiRules, multi_play, OneDecision}
 use Rattle.multivalued.specs.Root.{multi_root_desk, multi_ending, multi_decided_in, multi_root}
 
@@ -95,6 +96,13 @@ module _ (m : MultiRules) (one : OneDecision m) (p : Numbers) (mode : Mode) (is_
       let x = ending_is _ (Value v) q in
       one.valid at is_correct coins xs run.enough fed i v ci (x.1 ∙ ap Some (value_of x.0 v x.2))
 
+  -- what is decided inside was proposed to it by a correct replica
+  pub decisions_proposed : (i : ℕ) → is_correct i ≡ true
+      → IsProposed is_correct (SaidProposal (service_play session) xs) ((multi_root m).decided (seat_at session i) (calls_of i xs))
+  decisions_proposed i ci =
+      let h = one.proposed at is_correct coins xs run.enough fed i ci in
+      record { bits = λ a t x q. h.bits a t x q; values = λ a t v q. h.values a t v q; entries = λ a k v e ck q r. absurd cc }
+
 no_spent : (o : Option (List ℕ)) → Spent ≡ value_decision o → ⊥
 no_spent None e = cc
 no_spent (Some v) e = cc
@@ -108,4 +116,7 @@ root_log m one = record {
   proposals = λ p mode is_correct coins steps run four. proposals m one p mode is_correct coins steps run;
   unspent = λ p mode is_correct coins steps run i ci q. absurd (let x = ending_is _ Spent q in no_spent x.0 x.2);
   last_vectors = λ p mode is_correct coins steps run i j x y ci cj q. absurd cc;
+  proposed = λ p mode is_correct coins steps run i ci. decisions_proposed m one p mode is_correct coins steps run i ci;
+  entries = λ p mode is_correct coins steps run five i k v e ci ck q r. absurd (let e = eqb-true mode.root 4 run.serves in omega (arith, e, five));
+  appended = λ p mode is_correct coins steps run i x ci there. absurd cc;
 }

@@ -121,6 +121,32 @@ module _ (m : MultiRules) (laws : MultiLaws m) (at : Desk) where
   spent_asked v session n =
       and_right (failed_below m at n (Ask v ∷ [])) _ (ap is_none (ap (m.decision (try_desk at n)) (quiet v session n) ∙ laws.decision_first (try_desk at n)))
 
+  -- where no attempt has a word, none decided anything inside, and nor did this instance where it decided nothing
+  inside_nothing : (w : List Word) → ((k : ℕ) → try_words m at k w ≡ []) → vector_decided_below m at (suc at.scope.numbers.f) w ≡ None
+      → failed_below m at (suc at.scope.numbers.f) w ≡ false → (x : Instance) → inside_at m at w x ≡ None
+  inside_nothing w quiet none going x = go x
+    where
+      none_if : (b : Bool) (o : Option Decision) → o ≡ None → (if b then o else None) ≡ None
+      none_if true o e = e
+      none_if false o e = refl
+
+      try_nothing : (a k : ℕ) (y : Instance) → try_inside m at w a k y ≡ None
+      try_nothing a k y =
+          none_if (a == at.scope.a && nat_le k at.scope.numbers.f) _
+          (ap (λ (u : List Word). m.inside (try_desk at k) u y) (quiet k) ∙ laws.inside_first (try_desk at k) y)
+
+      go : (x : Instance) → inside_at m at w x ≡ None
+      go (OfBit a k) = try_nothing a k (OfBit a k)
+      go (OfValue a k) = try_nothing a k (OfValue a k)
+      go (OfVector a) = none_if (a == at.scope.a) _ (ap₂ vector_decision none going)
+
+  pub inside_first : (x : Instance) → inside_at m at [] x ≡ None
+  inside_first x = inside_nothing [] (λ k. refl) (decision_first (suc at.scope.numbers.f)) (spent_first at.scope.numbers.f) x
+
+  pub inside_asked : (v : List ℕ) → IsSession at.scope.numbers → (x : Instance) → inside_at m at (Ask v ∷ []) x ≡ None
+  inside_asked v session x =
+      inside_nothing (Ask v ∷ []) (quiet v session) (decision_asked v session (suc at.scope.numbers.f)) (spent_asked v session at.scope.numbers.f) x
+
 -- ---- what the instances inside decided, together
 
 module _ (m : MultiRules) (laws : MultiLaws m) (at : Desk) where
@@ -390,4 +416,6 @@ vector_laws_law m laws = record {
   inside_spent = λ at w k q l. inside_spent m laws at w k q l;
   inside_bit = λ at w a k session has met. inside_bit m laws at session has w a k met;
   inside_stays = λ at c w x d session has met q. inside_stays m laws at session has c w x d met q;
+  inside_first = λ at x. inside_first m laws at x;
+  inside_asked = λ at v x session. inside_asked m laws at v session x;
 }

@@ -20,7 +20,7 @@ use Rattle.frame_codec.specs.Values.{at_place, entries_in, entry_at_place}
 use Rattle.frame_codec.specs.VectorLaws.{class2_short}
 use Rattle.frame_codec.specs.ColumnLaws.{vector_again}
 use Rattle.layer_api.specs.Runs.{ReplicaStep, calls_of, Has, IsEnough}
-use Rattle.layer_api.specs.Words.{Word, Ask, value_at}
+use Rattle.layer_api.specs.Words.{Word, Ask, HasSay, value_at}
 use Rattle.layer_api.specs.Part.{proposed}
 use Rattle.layer_api.specs.Fed.{Play, IsFedRun}
 use Rattle.layer_api.specs.FedLaws.{some_if, shortest_at, value_stays, proposed_has, heard_said, heard_met, say_later, met}
@@ -122,26 +122,29 @@ module _ (m : MultiRules) (laws : MultiLaws m) (one : OneDecision m) (at : Scope
       let big : 512 < 2 ^ 16 = lit≤ tt in
       omega (arith, l, big)
 
-  -- what was heard of a correct replica's proposal it proposed
-  heard_asked : (i k : ℕ) (v : List ℕ) → is_correct k ≡ true → value_at (calls_of i xs) (prop_slot at k) ≡ Some v → Has (calls_of k xs) (Ask v)
-  heard_asked i k v ck q =
-      let s = heard_said here_play is_correct (λ j c w y h. say_later ((vectors m).says (vector_desk m laws at enough.session has coins j) w c) _ y h) xs fed i (prop_slot at k) v q ck in
-      proposed_has (calls_of k xs) v (prop_said m laws at enough.session has coins k (calls_of k xs) v (older_all k).met s)
+  -- replica k said it at the slot of its proposal
+  abbrev SaysProposal : ℕ → List ℕ → Type 0
+  SaysProposal k v = HasSay (here_play.said k (calls_of k xs)) (record { slot = prop_slot at k; value = v })
 
-  -- an attempt is asked a vector whose entries are what correct replicas proposed
+  -- what was heard of a correct replica's proposal it said
+  heard_from : (i k : ℕ) (v : List ℕ) → is_correct k ≡ true → value_at (calls_of i xs) (prop_slot at k) ≡ Some v → SaysProposal k v
+  heard_from i k v ck q =
+      heard_said here_play is_correct (λ j c w y h. say_later ((vectors m).says (vector_desk m laws at enough.session has coins j) w c) _ y h) xs fed i (prop_slot at k) v q ck
+
+  -- an attempt is asked a vector whose entries are what correct replicas said
   asked_entry : (t j : ℕ) (v : List ℕ) → ask_attempt m laws at enough.session has coins t j (calls_of j xs) ≡ Some v → (k : ℕ) (e : List ℕ) → is_correct k ≡ true
-      → entry_at_place v k ≡ Some e → Has (calls_of k xs) (Ask e)
+      → entry_at_place v k ≡ Some e → SaysProposal k e
   asked_entry t j v q k e ck r =
       let failed = failed_below m (vector_desk m laws at enough.session has coins j) t in
       let g = shortest_at (IsOlder j) (older_less j) (try_at at t failed) (calls_of j xs) v (older_all j) q in
       let s = some_if (is_some (proposed g.0) && (failed g.0 && nat_le (wait_of at.numbers + t) (count_by is_some (props at g.0)))) (vector_of at g.0) v g.2 in
       let e_is = entry_is at enough.session g.0 (older_short j g.0 g.1) k e (ap (λ (x : List ℕ). entry_at_place x k) s.1 ∙ r) in
-      heard_asked j k e ck (g.1.value (prop_slot at k) e e_is)
+      heard_from j k e ck (g.1.value (prop_slot at k) e e_is)
 
-  -- in a decided vector the entry of a correct replica is what it proposed
-  pub entry_asked : (i k : ℕ) (v e : List ℕ) → is_correct i ≡ true → is_correct k ≡ true
-      → (vectors m).decision (vector_desk m laws at enough.session has coins i) (calls_of i xs) ≡ Some v → entry_at_place v k ≡ Some e → Has (calls_of k xs) (Ask e)
-  entry_asked i k v e ci ck q r =
+  -- in a decided vector the entry of a correct replica is what it said
+  pub entry_said : (i k : ℕ) (v e : List ℕ) → is_correct i ≡ true → is_correct k ≡ true
+      → (vectors m).decision (vector_desk m laws at enough.session has coins i) (calls_of i xs) ≡ Some v → entry_at_place v k ≡ Some e → SaysProposal k e
+  entry_said i k v e ci ck q r =
       let d = decided_by m (vector_desk m laws at enough.session has coins i) (suc at.numbers.f) (calls_of i xs) v q in
       let t : ℕ = d.attempt in
       let j = one.valid (try_scope at t) is_correct coins (try_run m laws at enough.session has coins t xs) enough
@@ -151,3 +154,9 @@ module _ (m : MultiRules) (laws : MultiLaws m) (one : OneDecision m) (at : Scope
       let a = part_has (ask_attempt m laws at enough.session has coins t j.0) (is_of_try t) (ask_stays at t failed) (ask_nothing at t failed) (calls_of j.0 xs) v
       (subst (λ (w : List Word). Has w (Ask v)) (try_calls m laws at enough.session has coins t j.0 xs) j.2) in
       asked_entry t j.0 v a k e ck r
+
+  -- and that is what it proposed
+  pub entry_asked : (i k : ℕ) (v e : List ℕ) → is_correct i ≡ true → is_correct k ≡ true
+      → (vectors m).decision (vector_desk m laws at enough.session has coins i) (calls_of i xs) ≡ Some v → entry_at_place v k ≡ Some e → Has (calls_of k xs) (Ask e)
+  entry_asked i k v e ci ck q r =
+      proposed_has (calls_of k xs) e (prop_said m laws at enough.session has coins k (calls_of k xs) e (older_all k).met (entry_said i k v e ci ck q r))

@@ -6,6 +6,7 @@ use Rattle.vector_consensus.specs.Laws.Agreement.{agree, same_attempt}
 use Rattle.vector_consensus.specs.Laws.LastAttempt.{unspent}
 use Rattle.vector_consensus.specs.Laws.Entries.{entry_asked}
 use Rattle.vector_consensus.specs.Laws.SameInside.{same_inside}
+use Rattle.vector_consensus.specs.Laws.Proposed.{inside_proposed}
 
 pub one_vector_law : (m : MultiRules) → MultiLaws m → OneDecision m → OneVector (vectors m)
 one_vector_law m laws one = record {
@@ -14,4 +15,5 @@ one_vector_law m laws one = record {
   unspent = λ at is_correct coins xs enough has fed. unspent m laws one at is_correct coins xs enough has fed;
   entries = λ at is_correct coins xs enough has fed. entry_asked m laws one at is_correct coins xs enough has fed;
   insides = λ at is_correct coins xs enough has fed. same_inside m laws one at is_correct coins xs enough has fed;
+  proposed = λ at is_correct coins xs enough has fed. inside_proposed m laws one at is_correct coins xs enough has fed;
 }

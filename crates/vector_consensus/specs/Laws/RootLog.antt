@@ -8,16 +8,19 @@ use Rattle.ritas_base.specs.Numbers.{Numbers}
 use Rattle.frame_codec.specs.Format.{Format, Is}
 use Rattle.frame_codec.specs.Grammar.{class2, value}
 use Rattle.frame_codec.specs.Inputs.{input_format}
-use Rattle.layer_api.specs.Runs.{ReplicaStep, calls_of}
+use Rattle.layer_api.specs.Runs.{ReplicaStep, calls_of, Has}
 use Rattle.layer_api.specs.Service.{Seat, MayAsk, MayHear, MayWord, Instance, OfBit, OfValue, OfVector, Decision, Value, Bit, Spent, Decided, LastVector, vector_decision, vector_with}
-use Rattle.layer_api.specs.DecisionLaws.{decided_vector, vector_parts, if_so}
+use Rattle.layer_api.specs.DecisionLaws.{decided_vector, vector_is, vector_parts, if_so}
 use Rattle.layer_api.specs.Words.{Word, Ask, Hear}
 use Rattle.layer_api.specs.OneLog.{Session, seat_at, service_play, IsRunOf, OneLog}
 use Rattle.layer_api.specs.Fed.{IsFedRun}
 use Rattle.layer_api.specs.FedLaws.{same_fed}
 use Rattle.layer_api.specs.OneInstance.{not_given}
+use Rattle.frame_codec.specs.Values.{entry_at_place}
+use Rattle.layer_api.specs.Proposals.{SaidProposal, IsProposed}
 use Rattle.layer_api.specs.Multi.{Scope, desk_at}
 use Rattle.layer_api.specs.Vectors.{VectorRules, is_vector_slot, MayVector, vector_play, OneVector}
+use Rattle.vector_consensus.specs.Laws.Agreement.{if_true}
 use Rattle.vector_consensus.specs.Root.{vector_root_desk, vector_ending, vector_decided_in, vector_root}
 
 pub input_class : (p : Numbers) → input_format p 5 ≡ class2 p 5
@@ -118,6 +121,26 @@ module _ (v : VectorRules) (one : OneVector v) (p : Numbers) (mode : Mode) (is_c
       (one.attempts at is_correct coins xs run.enough refl fed i j a.0 b.0 ci cj a.2 b.2)
       (one.agree at is_correct coins xs run.enough refl fed i j a.1 b.1 ci cj a.3 b.3) ∙ sym b.4)
 
+  -- what is decided inside was proposed to it by correct replicas
+  pub decisions_proposed : (i : ℕ) → is_correct i ≡ true
+      → IsProposed is_correct (SaidProposal (service_play session) xs) ((vector_root v).decided (seat_at session i) (calls_of i xs))
+  decisions_proposed i ci =
+      let h = one.proposed at is_correct coins xs run.enough refl fed i ci in
+      record {
+        bits = λ a t x q. h.bits a t x q;
+        values = λ a t x q. h.values a t x q;
+        entries = λ a k x e ck q r.
+            subst (λ (b : ℕ). SaidProposal (service_play session) xs k (OfVector b) e) (sym (eqb-true a 0 (if_true (a == 0) _ (Value x) q).0))
+            (h.entries 0 k x e ck (if_so (a == 0) _ (Value x) q) r);
+      }
+
+  -- the entry of a correct replica is its input
+  pub entries : (i k : ℕ) (x e : List ℕ) → is_correct i ≡ true → is_correct k ≡ true → vector_ending (decided i) ≡ Decided (Value x)
+      → entry_at_place x k ≡ Some e → Has (calls_of k xs) (Ask e)
+  entries i k x e ci ck q r =
+      one.entries at is_correct coins xs run.enough refl fed i k x e ci ck
+      (vector_is (v.decision (desk_at at coins i) (calls_of i xs)) (v.spent (desk_at at coins i) (calls_of i xs)) x (ending_is (decided i) (Value x) q)) r
+
   pub no_bits : (i : ℕ) (b : Bool) → vector_ending (decided i) ≡ Decided (Bit b) → ⊥
   no_bits i b q =
       elim (decided_vector (v.decision (desk_at at coins i) (calls_of i xs)) (v.spent (desk_at at coins i) (calls_of i xs)) (Bit b) (ending_is (decided i) (Bit b) q)) [
@@ -134,4 +157,7 @@ root_log v one = record {
   proposals = λ p mode is_correct coins steps run four i x ci q. absurd (let e = eqb-true mode.root 5 run.serves in omega (arith, e, four));
   unspent = λ p mode is_correct coins steps run. not_spent v one p mode is_correct coins steps run;
   last_vectors = λ p mode is_correct coins steps run i j x y ci cj q r same. one_last v one p mode is_correct coins steps run i j x y ci cj q r;
+  proposed = λ p mode is_correct coins steps run i ci. decisions_proposed v one p mode is_correct coins steps run i ci;
+  entries = λ p mode is_correct coins steps run five i k x e ci ck q r. entries v one p mode is_correct coins steps run i k x e ci ck q r;
+  appended = λ p mode is_correct coins steps run i x ci there. absurd cc;
 }

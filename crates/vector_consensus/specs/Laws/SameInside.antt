@@ -20,7 +20,7 @@ module _ (m : MultiRules) (laws : MultiLaws m) (one : OneDecision m) (at : Scope
   here i = desk_at at coins i
 
   -- what an instance inside an attempt decided, it decided in the attempt's run
-  inside_run : (a k i : ℕ) (x : Instance) (d : Decision) → try_inside m (here i) (calls_of i xs) a k x ≡ Some d
+  pub inside_run : (a k i : ℕ) (x : Instance) (d : Decision) → try_inside m (here i) (calls_of i xs) a k x ≡ Some d
       → m.inside (desk_at (try_scope at k) coins i) (calls_of i (try_run m laws at enough.session has coins k xs)) x ≡ Some d
   inside_run a k i x d q =
       subst (λ (w : List Word). m.inside (try_desk (here i) k) w x ≡ Some d) (sym (try_calls m laws at enough.session has coins k i xs))
@@ -33,7 +33,7 @@ module _ (m : MultiRules) (laws : MultiLaws m) (one : OneDecision m) (at : Scope
       (try_fed m laws at enough.session has coins is_correct k xs fed) i j x d e ci cj (inside_run a k i x d q) (inside_run a k j x e r)
 
   -- what is decided is a vector, since no correct replica's attempts are spent
-  is_vector : (i : ℕ) (a : ℕ) (d : Decision) → is_correct i ≡ true → (vectors m).inside (here i) (calls_of i xs) (OfVector a) ≡ Some d
+  pub is_vector : (i : ℕ) (a : ℕ) (d : Decision) → is_correct i ≡ true → (vectors m).inside (here i) (calls_of i xs) (OfVector a) ≡ Some d
       → (v : List ℕ) × ((vectors m).decision (here i) (calls_of i xs) ≡ Some v) × (d ≡ Value v)
   is_vector i a d ci q =
       let last : ℕ = suc at.numbers.f in

@@ -1,6 +1,7 @@
-use Rattle.atomic_bcast.specs.Laws.OneLog.{one_log_law, vectors_agree}
+use Rattle.atomic_bcast.specs.Laws.LogLaw.{one_log_law}
+use Rattle.atomic_bcast.specs.Laws.OneLog.{vectors_agree}
 use Rattle.atomic_bcast.specs.Laws.LogsByRound.{done_distinct}
-use Rattle.atomic_bcast.proofs.Appending.{appends_proposed}
+use Rattle.atomic_bcast.specs.Laws.Appending.{appends_proposed}
 use Rattle.atomic_bcast.proofs.laws.one_log.Goals as goal
 
 pub returns-clause-log : goal.returns-clause-log

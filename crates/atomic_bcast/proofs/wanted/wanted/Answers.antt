@@ -1,7 +1,8 @@
 use Rattle.std.proofs.Common.{◌≡◌, ◌∙◌, ◌+◌, ap, ℕ, nat_le}
 use Rattle.std.proofs.lemmas.Result.{IfOk-weaker}
 use Rattle.atomic_bcast.specs.Identifiers.{passing_ids, in_order}
-use Rattle.atomic_bcast.specs.Rounds.{backers, entry_ids, wanted}
+use Rattle.layer_api.specs.Proposals.{backers}
+use Rattle.atomic_bcast.specs.Rounds.{entry_ids, wanted}
 use Rattle.atomic_bcast.proofs.wanted.wanted.Goals as goal
 use Rattle.frame_codec.specs.Values.{vector_entries}
 
