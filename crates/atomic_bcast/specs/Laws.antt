@@ -19,3 +19,4 @@ pub mod RoundsStay
 pub mod QuietRounds
 pub mod RoundVectors
 pub mod WordsMeet
+pub mod Opening

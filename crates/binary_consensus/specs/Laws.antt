@@ -7,3 +7,4 @@ pub mod RootWords
 pub mod RootLog
 pub mod OneBit
 pub mod Stays
+pub mod Opening

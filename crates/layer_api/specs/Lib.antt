@@ -19,6 +19,7 @@ pub mod Windows
 pub mod Service
 pub mod DecisionLaws
 pub mod ServiceCalls
+pub mod OpeningLaws
 pub mod OneLog
 pub mod OneInstance
 pub mod Binary

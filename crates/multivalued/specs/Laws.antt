@@ -7,3 +7,4 @@ pub mod OneProposal
 pub mod RootLog
 pub mod RootWords
 pub mod Box
+pub mod Opening
