@@ -23,3 +23,4 @@ pub mod RoundsStay
 pub mod QuietRounds
 pub mod RoundVectors
 pub mod WordsMeet
+pub mod Opening

@@ -171,6 +171,7 @@ impl<V: VectorBox> Service for Abc<V> {
     ghost use Rattle.atomic_bcast.specs.AbcGetters.{atomic_shown};
     ghost use Rattle.atomic_bcast.specs.Laws.Getters.{shows_rules};
     ghost use Rattle.atomic_bcast.specs.Laws.LogLaw.{one_log_law};
+    ghost use Rattle.atomic_bcast.specs.Laws.Opening.{atomic_opens_down};
     ghost use Rattle.atomic_bcast.specs.Laws.AtomicWords.{atomic_word_laws};
 
     ghost stands = { AtomicStands V.stands V.rules V.shown };
@@ -270,4 +271,6 @@ impl<V: VectorBox> Service for Abc<V> {
     ghost word_laws = { atomic_word_laws V.rules V.vector_laws };
 
     ghost one_log = { one_log_law V.rules V.vector_laws V.one_vector };
+
+    ghost opens_down = { atomic_opens_down V.rules V.opens_down };
 }

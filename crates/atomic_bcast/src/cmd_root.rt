@@ -83,6 +83,7 @@ impl CmdRoot {
 impl Service for CmdRoot {
     ghost use Rattle.atomic_bcast.specs.Commands.{commands};
     ghost use Rattle.atomic_bcast.specs.Laws.Commands.{command_laws, command_log};
+    ghost use Rattle.atomic_bcast.specs.Laws.Opening.{commands_open_down};
     ghost use Rattle.atomic_bcast.specs.CmdRoot.{CommandsStand};
     ghost use Rattle.atomic_bcast.specs.CmdRootGetters.{commands_shown, shows_rules};
 
@@ -185,4 +186,6 @@ impl Service for CmdRoot {
     ghost word_laws = { command_laws };
 
     ghost one_log = { command_log };
+
+    ghost opens_down = { commands_open_down };
 }

@@ -8,3 +8,4 @@ pub mod RootWords
 pub mod RootLog
 pub mod OneBit
 pub mod Stays
+pub mod Opening

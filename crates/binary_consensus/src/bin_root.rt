@@ -20,6 +20,7 @@ impl<B: BinaryBox> Service for BinRoot<B> {
     ghost use Rattle.binary_consensus.specs.Root.{root_bench, binary_root};
     ghost use Rattle.binary_consensus.specs.Laws.RootWords.{root_word_laws};
     ghost use Rattle.binary_consensus.specs.Laws.RootLog.{root_one_log};
+    ghost use Rattle.binary_consensus.specs.Laws.Opening.{root_opens_down};
     ghost use Rattle.binary_consensus.specs.RootStands.{BinaryRootStands, binary_root_shown, root_shows};
 
     ghost stands = { BinaryRootStands B.stands };
@@ -112,4 +113,6 @@ impl<B: BinaryBox> Service for BinRoot<B> {
     ghost word_laws = { root_word_laws B.rules B.box_laws };
 
     ghost one_log = { root_one_log B.rules B.one_bit };
+
+    ghost opens_down = { root_opens_down B.rules };
 }

@@ -8,3 +8,4 @@ pub mod OneValue
 pub mod Getters
 pub mod News
 pub mod Matrix
+pub mod Opening

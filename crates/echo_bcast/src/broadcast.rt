@@ -8,6 +8,7 @@ ghost use Rattle.echo_bcast.specs.Laws.Getters.{shows_cast};
 ghost use Rattle.echo_bcast.specs.Laws.Matrix.{value_laws_of_echo};
 ghost use Rattle.echo_bcast.specs.Laws.Entries.{entry_laws_of_echo};
 ghost use Rattle.echo_bcast.specs.Laws.OneValue.{one_value_of_echo};
+ghost use Rattle.echo_bcast.specs.Laws.Opening.{ready_by_kind_of_echo};
 
 use crate::eb::Eb;
 use layer_api::{Broadcast, Heard};
@@ -34,6 +35,8 @@ impl Broadcast for Eb {
     ghost entry_laws = { entry_laws_of_echo };
 
     ghost one_value = { one_value_of_echo };
+
+    ghost ready_by_kind = { ready_by_kind_of_echo };
 
     const FORM: u8 = 2;
 

@@ -21,6 +21,7 @@ pub mod DecisionLaws
 pub mod ServiceCalls
 pub mod Proposals
 pub mod ProposalLaws
+pub mod OpeningLaws
 pub mod OneLog
 pub mod OneInstance
 pub mod Binary

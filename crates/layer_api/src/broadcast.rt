@@ -10,6 +10,7 @@ ghost use Rattle.layer_api.specs.Broadcast.{BroadcastRules, Tagging};
 ghost use Rattle.layer_api.specs.BroadcastCalls.{CastShown, ShowsCast, Started, Takes};
 ghost use Rattle.layer_api.specs.OneValue.{ValueLaws, OneValue};
 ghost use Rattle.layer_api.specs.EntryLaws.{EntryLaws};
+ghost use Rattle.layer_api.specs.OpeningLaws.{ReadyByKind};
 
 use ritas_base::{Item, Mem, Msg, Params, Slot, Tagger};
 use std::alloc::Global;
@@ -101,4 +102,7 @@ pub trait Broadcast: Drop + Sized {
 
     /// The law of one value, over every run of correct replicas.
     ghost one_value: { OneValue rules };
+
+    /// Whether an item can be taken yet goes by its kind alone.
+    ghost ready_by_kind: { ReadyByKind rules };
 }

@@ -4,6 +4,7 @@ ghost use Rattle.std.specs.Prelude.{◌≡◌, ℕ, ◌<◌, Bool, true, List, [
 ghost use Rattle.layer_api.specs.Words.{Word};
 ghost use Rattle.layer_api.specs.Multi.{MultiRules, Desk, MultiLaws, OneDecision};
 ghost use Rattle.layer_api.specs.MultiCalls.{MultiShown, ShowsMulti, MultiProposes, MultiHears, decided_of};
+ghost use Rattle.layer_api.specs.OpeningLaws.{OpensDown};
 
 use crate::decided::Decided;
 use ritas_base::{Coin, Mem, Params, Say, Slot};
@@ -71,4 +72,7 @@ pub trait MultiBox: Drop + Sized {
 
     /// The law of one decision, over every run of correct replicas.
     ghost one_decision: { OneDecision rules };
+
+    /// Where a slot opens, each opens that is no later.
+    ghost opens_down: { (at : Desk) (w : List Word) → OpensDown (rules.opens at w) };
 }

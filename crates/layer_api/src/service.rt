@@ -6,6 +6,7 @@ ghost use Rattle.layer_api.specs.Service.{ServiceRules, Seat, WordLaws};
 ghost use Rattle.layer_api.specs.Words.{Word};
 ghost use Rattle.layer_api.specs.ServiceCalls.{Inputs, Heeds, ServiceShown, Shows, ending_of};
 ghost use Rattle.layer_api.specs.OneLog.{OneLog};
+ghost use Rattle.layer_api.specs.OpeningLaws.{OpensDown};
 
 use crate::outcome::Outcome;
 use ritas_base::{Coin, Id, Mem, Params, Say, Slot};
@@ -108,4 +109,7 @@ pub trait Service: Drop + Sized {
 
     /// The law of one log, over every run of correct replicas.
     ghost one_log: { OneLog rules };
+
+    /// Where a slot opens, each opens that is no later.
+    ghost opens_down: { (seat : Seat) (w : List Word) → OpensDown (rules.opens seat w) };
 }

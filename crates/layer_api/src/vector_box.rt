@@ -6,6 +6,7 @@ ghost use Rattle.layer_api.specs.Words.{Word};
 ghost use Rattle.layer_api.specs.Multi.{Desk};
 ghost use Rattle.layer_api.specs.Vectors.{VectorRules, VectorLaws, OneVector};
 ghost use Rattle.layer_api.specs.VectorCalls.{VectorShown, ShowsVector, VectorProposes, VectorHears};
+ghost use Rattle.layer_api.specs.OpeningLaws.{OpensDown};
 
 use ritas_base::{Coin, Mem, Params, Say, Slot};
 use std::alloc::Global;
@@ -81,4 +82,7 @@ pub trait VectorBox: Drop + Sized {
 
     /// The law of one vector, over every run of correct replicas.
     ghost one_vector: { OneVector rules };
+
+    /// Where a slot opens, each opens that is no later.
+    ghost opens_down: { (at : Desk) (w : List Word) → OpensDown (rules.opens at w) };
 }

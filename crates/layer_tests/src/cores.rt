@@ -115,7 +115,7 @@ impl Service for Mute {
     }
 
     ghost use Rattle.std.specs.Prelude.{ℕ, refl};
-    ghost use Rattle.std.proofs.Common.{ap, inl};
+    ghost use Rattle.std.proofs.Common.{ap, inl, ◌∙◌};
     ghost use Rattle.std.proofs.lemmas.Bool.{eqb-true};
     ghost use Rattle.std.proofs.lemmas.Option.{none-some};
     ghost use Rattle.layer_api.specs.Service.{has_instance};
@@ -164,6 +164,8 @@ impl Service for Mute {
       unspent = λ p mode is_correct coins steps run i ci a. absurd Prim.cc;
       last_vectors = λ p mode is_correct coins steps run i j x y ci cj a. absurd (none-some x a);
     } };
+
+    ghost opens_down = { λ seat w s t near e. ap (λ (c : ℕ). not (c == 5)) near.class ∙ e };
 }
 
 fn item(

@@ -153,6 +153,8 @@ impl VectorBox for OnePlace {
     ghost vector_laws = { one_place_laws };
 
     ghost one_vector = { one_place_agrees };
+
+    ghost opens_down = { λ at w s t near e. e };
 }
 
 /// Atomic broadcast over such a box.

@@ -110,6 +110,8 @@ impl MultiBox for Refuses {
     ghost multi_laws = { refusing_laws };
 
     ghost one_decision = { refusing_agrees };
+
+    ghost opens_down = { λ at w s t near e. e };
 }
 
 fn slot(class: u8, a: u32, attempt: u8, origin: u8) -> Slot {

@@ -8,3 +8,4 @@ pub mod Proposed
 pub mod RootLog
 pub mod RootWords
 pub mod Box
+pub mod Opening

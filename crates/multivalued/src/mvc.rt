@@ -51,6 +51,7 @@ impl<B: BinaryBox> MultiBox for Mvc<B> {
     ghost use Rattle.multivalued.specs.Consensus.{multivalued};
     ghost use Rattle.multivalued.specs.Laws.Box.{multi_laws_law};
     ghost use Rattle.multivalued.specs.Laws.OneDecision.{one_decision_law};
+    ghost use Rattle.multivalued.specs.Laws.Opening.{multi_opens_down};
     ghost use Rattle.multivalued.specs.Stands.{MultiStands, multi_shown, shows_multi};
 
     ghost stands = { MultiStands B.stands B.rules };
@@ -120,4 +121,6 @@ impl<B: BinaryBox> MultiBox for Mvc<B> {
     ghost multi_laws = { multi_laws_law B.rules B.box_laws };
 
     ghost one_decision = { one_decision_law B.rules B.box_laws B.one_bit };
+
+    ghost opens_down = { multi_opens_down B.rules };
 }

@@ -20,6 +20,7 @@ impl<M: MultiBox> Service for MvcRoot<M> {
     ghost use Rattle.multivalued.specs.Root.{multi_root_desk, multi_root};
     ghost use Rattle.multivalued.specs.Laws.RootWords.{root_word_laws};
     ghost use Rattle.multivalued.specs.Laws.RootLog.{root_log};
+    ghost use Rattle.multivalued.specs.Laws.Opening.{root_opens_down};
     ghost use Rattle.multivalued.specs.RootStands.{MultiRootStands, multi_root_shown, root_shows};
 
     ghost stands = { MultiRootStands M.stands };
@@ -107,4 +108,6 @@ impl<M: MultiBox> Service for MvcRoot<M> {
     ghost word_laws = { root_word_laws M.rules M.multi_laws };
 
     ghost one_log = { root_log M.rules M.one_decision };
+
+    ghost opens_down = { root_opens_down M.rules M.opens_down };
 }

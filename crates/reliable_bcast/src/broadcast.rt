@@ -35,6 +35,8 @@ impl Broadcast for Rb {
 
     ghost one_value = { one_value_of_bracha };
 
+    ghost ready_by_kind = { λ at tags h x y same. refl };
+
     const FORM: u8 = 1;
 
     fn new(alloc: Global, p: &Params, _me: u8, slot: Slot) -> Result<Rb, Mem> {

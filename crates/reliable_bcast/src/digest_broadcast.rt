@@ -34,6 +34,8 @@ impl Broadcast for DigestRb {
 
     ghost one_value = { one_value_by_digest };
 
+    ghost ready_by_kind = { λ at tags h x y same. refl };
+
     const FORM: u8 = 3;
 
     fn new(alloc: Global, p: &Params, me: u8, slot: Slot) -> Result<DigestRb, Mem> {

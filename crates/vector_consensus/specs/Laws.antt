@@ -11,3 +11,4 @@ pub mod RootWords
 pub mod SameInside
 pub mod Tries
 pub mod Box
+pub mod Opening

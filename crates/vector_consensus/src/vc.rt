@@ -114,6 +114,7 @@ impl<M: MultiBox> VectorBox for Vc<M> {
     ghost use Rattle.vector_consensus.specs.Consensus.{vectors};
     ghost use Rattle.vector_consensus.specs.Laws.Box.{vector_laws_law};
     ghost use Rattle.vector_consensus.specs.Laws.OneVector.{one_vector_law};
+    ghost use Rattle.vector_consensus.specs.Laws.Opening.{vector_opens_down};
     ghost use Rattle.vector_consensus.specs.Stands.{VectorStands, vector_shown, shows_vector};
 
     ghost stands = { VectorStands M.stands M.rules };
@@ -190,4 +191,6 @@ impl<M: MultiBox> VectorBox for Vc<M> {
     ghost vector_laws = { vector_laws_law M.rules M.multi_laws };
 
     ghost one_vector = { one_vector_law M.rules M.multi_laws M.one_decision };
+
+    ghost opens_down = { vector_opens_down M.rules M.opens_down };
 }

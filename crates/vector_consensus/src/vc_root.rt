@@ -20,6 +20,7 @@ impl<V: VectorBox> Service for VcRoot<V> {
     ghost use Rattle.vector_consensus.specs.Root.{vector_root_desk, vector_root};
     ghost use Rattle.vector_consensus.specs.Laws.RootWords.{root_word_laws};
     ghost use Rattle.vector_consensus.specs.Laws.RootLog.{root_log};
+    ghost use Rattle.vector_consensus.specs.Laws.Opening.{root_opens_down};
     ghost use Rattle.vector_consensus.specs.RootStands.{VectorRootStands, vector_root_shown, root_shows};
 
     ghost stands = { VectorRootStands V.stands };
@@ -108,4 +109,6 @@ impl<V: VectorBox> Service for VcRoot<V> {
     ghost word_laws = { root_word_laws V.rules V.vector_laws };
 
     ghost one_log = { root_log V.rules V.one_vector };
+
+    ghost opens_down = { root_opens_down V.rules V.opens_down };
 }
