@@ -2,7 +2,7 @@
 -- first.
 use Rattle.std.specs.Prelude.{◌≡◌, ◌⊎◌, ℕ, ◌+◌, ◌-◌, ◌<◌, ◌≤◌, min, max, Bool, true, List, [], ◌∷◌, ◌++◌, length, take, drop, replicate, get_or, Result, OnOk}
 use Rattle.std.specs.List.{AllByRecursion}
-use Rattle.outside.specs.Faults.{Rose}
+use Rattle.outside.specs.Faults.{Rose, counted}
 
 -- so many bytes from an offset on
 pub record Range : Type 0 where
@@ -94,9 +94,11 @@ pub record LeavesTorn (range : Range) (s : DiskState) (image : List ℕ) : Type 
   pub was : MayLeave s older
   pub torn : IsTorn range older image
 
--- These bytes are written at an offset and synced: at Ok this is what a stop leaves, and before, the write may be torn.
+-- These bytes are written at an offset and synced: at Ok this is what a stop leaves, and before, the write may be torn. Where it fails, one call of
+-- the disk did, and else none did.
 pub record Puts {E : Type 0} (at : ℕ) (bytes : List ℕ) (tells : Bool) (old new : List DiskState) (before now : ℕ) (result : Result (Unit {0}) E) (failed : Type 0) : Type 0 where
   pub whole : tells ≡ true → OnOk result (disk_state_of new ≡ at_rest (bytes_written at bytes (disk_state_of old).seen))
   pub since : tells ≡ true → LeavesOnly (LeavesTorn (record { at = at; count = length bytes }) (disk_state_of old)) old new
   pub later : before ≤ now
   pub cause : failed → Rose before now
+  pub counts : now ≡ counted before result

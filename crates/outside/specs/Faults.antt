@@ -1,5 +1,5 @@
--- The count of faults of a source or a sink, and what a fault says of it.
-use Rattle.std.specs.Prelude.{ℕ, ◌+◌, ◌-◌, ◌^◌, ◌<◌, ◌≤◌, ◌⊎◌, min, Result, is_err, if◌then◌else◌}
+-- The count of faults of a source, a sink or a disk, and what a fault says of it.
+use Rattle.std.specs.Prelude.{◌≡◌, ℕ, ◌+◌, ◌-◌, ◌^◌, ◌<◌, ◌≤◌, ◌⊎◌, min, Result, OnOk, is_err, if◌then◌else◌}
 
 -- a count goes up to this number, and then stands
 abbrev pub last_count : ℕ
@@ -21,3 +21,9 @@ Rose before now = (before < now) ⊎ (last_count ≤ now)
 pub record HasCause (before now : ℕ) (failed : Type 0) : Type 0 where
   pub later : before ≤ now
   pub cause : failed → Rose before now
+
+-- Where this call failed, one call of a sink or a disk did, and else none did. So none did at Ok.
+pub record CountsFault {A E : Type 0} (before now : ℕ) (result : Result A E) (failed : Type 0) : Type 0 where
+  pub stands : OnOk result (now ≡ before)
+  pub rises : failed → now ≡ count_after before
+  pub others : ¬ failed → now ≡ before

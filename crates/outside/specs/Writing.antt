@@ -1,12 +1,6 @@
 -- How a text is written to a sink.
 use Rattle.std.specs.Prelude.{◌≡◌, ◌≤◌, ℕ, List, ◌++◌, Bool, true, Result, OnOk}
-use Rattle.outside.specs.Faults.{count_after, Rose}
-
--- Where this call failed, one call of a sink did, and else none did. So none did at Ok.
-pub record CountsFault {A E : Type 0} (before now : ℕ) (result : Result A E) (failed : Type 0) : Type 0 where
-  pub stands : OnOk result (now ≡ before)
-  pub rises : failed → now ≡ count_after before
-  pub others : ¬ failed → now ≡ before
+use Rattle.outside.specs.Faults.{CountsFault, Rose}
 
 -- new is old and then a front of the text
 pub record TookFront (old new text : List ℕ) : Type 0 where

@@ -3,9 +3,9 @@ use Rattle.std.specs.Prelude.{◌≡◌, ℕ, List, [], ◌++◌, Bool, true, Re
 use Rattle.std.proofs.Common.{sym, ap, ◌∙◌, append_assoc, arith}
 use Rattle.std.proofs.lemmas.List.{take-append-drop, append-nil}
 use Rattle.std.proofs.lemmas.Result.{on_ok_weaker}
-use Rattle.outside.specs.Faults.{count_after}
+use Rattle.outside.specs.Faults.{CountsFault, count_after}
 use Rattle.outside.specs.FaultsLaws.{rose_after}
-use Rattle.outside.specs.Writing.{CountsFault, TookFront, Writes}
+use Rattle.outside.specs.Writing.{TookFront, Writes}
 
 pub front_of : (old new text : List ℕ) (k : ℕ) → new ≡ old ++ take k text → TookFront old new text
 front_of old new text k e = record { front = take k text; rest = drop k text; parts = sym (take-append-drop k text); taken = e }

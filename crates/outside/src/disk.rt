@@ -43,7 +43,8 @@ pub trait Disk {
         ensures counts { faults self.new ≡ counted (faults self.old) result };
 }
 
-/// Writes bytes at an offset, and syncs. At `Failed` a stop may leave the write in part.
+/// Writes bytes at an offset, and syncs, and stops at the first call of the disk that fails: then the count of faults rises by one, and else it
+/// stands. At `Failed` a stop may leave the write in part.
 pub fn put<D: Disk>(disk: &mut D, at: u64, bytes: &[u8]) -> Result<(), Failed>
     ensures { Puts at bytes.now D.tells (D.told disk.old) (D.told disk.new) (D.faults disk.old) (D.faults disk.new) result (IsErr result) }
 {

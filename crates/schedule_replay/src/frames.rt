@@ -1,8 +1,8 @@
 //! Writing the frames that were made, in pieces.
 ghost use Rattle.std.specs.Prelude.{◌≡◌, ◌≢◌, ◌++◌, List, ℕ, [], true, OnOk, MatchResult, string_bytes};
 ghost use Rattle.std.specs.List.{flat_map};
-ghost use Rattle.outside.specs.Faults.{HasCause};
-ghost use Rattle.outside.specs.Writing.{CountsFault, TookFront, Writes};
+ghost use Rattle.outside.specs.Faults.{CountsFault, HasCause};
+ghost use Rattle.outside.specs.Writing.{TookFront, Writes};
 ghost use Rattle.ritas_base.specs.declared.event.Event.{Event};
 ghost use Rattle.keyed_channel.specs.Keyed.{tags_of};
 ghost use Rattle.ritas_core.specs.Stands.{meaning};

@@ -1,6 +1,7 @@
 //! Writing what is asked for of a world.
 ghost use Rattle.std.specs.Prelude.{◌≡◌, ◌≢◌, List, ℕ, true, IfOk, string_bytes};
-ghost use Rattle.outside.specs.Writing.{CountsFault, Writes};
+ghost use Rattle.outside.specs.Faults.{CountsFault};
+ghost use Rattle.outside.specs.Writing.{Writes};
 ghost use Rattle.ritas_base.specs.declared.event.Event.{Event};
 ghost use Rattle.ritas_core.specs.Rules.{other_form};
 ghost use Rattle.schedule_file.specs.declared.fault.FileFault.{FileFault};

@@ -1,6 +1,6 @@
 use Rattle.std.proofs.Common.{◌≡◌, true, List, Result, Ok, Err, OnOk, OnErr, arith, ◌∙◌, refl, length}
 use Rattle.std.proofs.lemmas.Result.{IfOk-from_err}
-use Rattle.outside.specs.FaultsLaws.{rose_after}
+use Rattle.outside.specs.FaultsLaws.{rose_after, counted_stops, counted_then}
 use Rattle.ritas_base.specs.Bytes.{IsBytes}
 use Rattle.outside.specs.Disks.{DiskState, LeavesOnly, LeavesTorn, disk_state_of, at_rest, bytes_written, after_write, after_sync}
 use Rattle.outside.specs.DisksLaws.{failed_leaves, wrote_leaves, synced_leaves, synced_state}
@@ -23,6 +23,7 @@ returns-in_err-write_at g c = record {
   since = λ tells. failed_leaves _ _ _ (c.in_err-write_at.ensures.err tells);
   later = c.in_err-write_at.ensures.cause.later;
   cause = λ _. c.in_err-write_at.ensures.cause.cause refl;
+  counts = counted_stops _ _ c.from_residual.result c.from_residual.ensures.0 c.in_err-write_at.ensures.counts;
 }
 
 pub returns : goal.returns
@@ -34,4 +35,5 @@ returns g c =
       since = λ tells. since c.sync.result c.args.at c.args.bytes.now (told c.args.disk.now) (told c.write_at.new.self) (told c.sync.new.self) (λ i. omega (arith, c.type_inv.bytes i)) (wrote tells) (c.sync.ensures.synced tells) (c.sync.ensures.err tells);
       later = omega (arith, c.in_ok-write_at.ensures.cause.later, c.sync.ensures.cause.later);
       cause = λ failed. rose_after _ _ _ c.in_ok-write_at.ensures.cause.later (c.sync.ensures.cause.cause failed);
+      counts = counted_then _ _ _ c.sync.result c.in_ok-write_at.ensures.counts c.sync.ensures.counts;
     }
