@@ -1,20 +1,19 @@
 -- What becomes of a log with one command more.
-use Rattle.std.specs.Prelude.{◌≡◌, ℕ, zero, suc, ◌+◌, ◌<◌, ◌≤◌, Bool, true, false, not, ◌==◌, ◌&&◌, ◌||◌, nat_le, if◌then◌else◌, List, [], ◌∷◌, length, drop, count_by, Option, None, Some, Result, Ok, Err, IfOk, OnOk, OnErr, cond, refl, ◌⊎◌}
-use Rattle.std.specs.List.{range_with_len}
+use Rattle.std.specs.Prelude.{◌≡◌, ℕ, zero, suc, ◌+◌, ◌/◌, ◌%◌, ◌<◌, slice_index_or, replicate, ◌≤◌, Bool, true, false, not, ◌==◌, ◌&&◌, ◌||◌, if◌then◌else◌, List, [], ◌∷◌, length, drop, Option, None, Some, Result, Ok, Err, IfOk, OnOk, OnErr, refl}
 use Rattle.std.specs.Str.{bytes_eq}
 use Rattle.std.proofs.Common.{sym, ◌∙◌, ap, ap₂, subst, inl, inr, arith}
-use Rattle.std.proofs.lemmas.Bool.{cases_Bool, cases_lt, and_parts, and_from, or_cases, or_left, or_right, both_ways, false_from_ne_true, eq-eqb, eqb-true, ne_eqb, leb-true, le-leb}
-use Rattle.std.proofs.lemmas.List.Sums.{sum_by_push}
+use Rattle.std.proofs.lemmas.Bool.{cases_Bool, cases_lt, and_parts, and_from, both_ways, false_from_ne_true, eq-eqb, eqb-true, ne_eqb, leb-true, le-leb}
 use Rattle.std.proofs.lemmas.Nat.Bits.{bit_at-zero}
 use Rattle.std.proofs.lemmas.Slice.Eq.{bytes_eq-Decides}
-use Rattle.ritas_base.specs.Members.{has_member, member_count}
-use Rattle.ritas_base.specs.History.{replicas}
-use Rattle.ritas_base.specs.RangeLaws.{range_more}
+use Rattle.ritas_base.specs.Members.{has_member}
 use Rattle.command_log.specs.declared.waiting.Waiting.{Waiting}
-use Rattle.command_log.specs.Rows.{CommandEntry, Row, client_of, request_of, row_of, has_row, is_same_command, is_origin, origins, is_confirmed, is_entered, rows_with, rows_of, entered}
+use Rattle.command_log.specs.Rows.{CommandEntry, Row, client_of, request_of, row_of, has_row, is_same_command, is_origin, origins, is_confirmed, is_entered, rows_of, entered}
+use Rattle.command_log.specs.declared.origins.OriginSet.{OriginSet}
 use Rattle.command_log.specs.Index.{row_key}
-use Rattle.command_log.specs.Standing.{Ledger, StandsFor, HasEntered, WaitsWith, IsEntryLost, Payloads, payloads_at, origins_of, origins_at}
-use Rattle.command_log.specs.Laws.{has_its, Enters, enters, AreOne, one_from, same_origin, row_covers}
+use Rattle.command_log.specs.Origins.{has_origin, origin_count, no_origins}
+use Rattle.command_log.specs.Standing.{Ledger, StandsFor, HasEntered, WaitsWith, IsEntryLost, payloads_at, origins_of, origins_at}
+use Rattle.command_log.specs.Laws.{has_its, enters, one_from, same_origin, row_covers}
+use Rattle.command_log.proofs.OriginSets.{counts_below}
 use Rattle.command_log.proofs.Places.{key_eq}
 
 -- the key of an entry's client and request
@@ -23,20 +22,9 @@ key_in e = row_key (client_of e.command) (request_of e.command)
 
 -- ---- origins
 
--- tests that are alike below n count alike there
-count_below : (p q : ℕ → Bool) (n : ℕ) → ((k : ℕ) → k < n → p k ≡ q k) → count_by p (replicas n) ≡ count_by q (replicas n)
-count_below p q zero alike = refl
-count_below p q (suc n) alike =
-    let more_p = ap (count_by p) (range_more 0 n n (omega arith)) ∙ sum_by_push (λ k. cond {A = ℕ} (p k) 1 0) (range_with_len 0 n) n in
-    let more_q = ap (count_by q) (range_more 0 n n (omega arith)) ∙ sum_by_push (λ k. cond {A = ℕ} (q k) 1 0) (range_with_len 0 n) n in
-    more_p
-    ∙ (ap₂ (λ (x : ℕ) (b : Bool). x + cond {A = ℕ} b 1 0) (count_below p q n (λ k l. alike k (omega (arith, l)))) (alike n (omega arith))
-    ∙ sym more_q)
-
 -- a set with these members has so many origins
-pub counted : (mask : ℕ) (es : List CommandEntry) (r : Row) → ((k : ℕ) → k < 32 → has_member mask k ≡ is_origin es r k) → member_count 32 mask ≡ origins es r
-unfolding member_count
-counted mask es r alike = count_below (has_member mask) (is_origin es r) 32 alike
+pub counted : (mask : OriginSet) (es : List CommandEntry) (r : Row) → ((k : ℕ) → k < 256 → has_origin mask k ≡ is_origin es r k) → origin_count mask ≡ origins es r
+counted mask es r alike = counts_below (has_origin mask) (is_origin es r) alike
 
 -- a command is one with itself
 same_itself : (r : Row) → is_same_command r r ≡ true
@@ -45,8 +33,8 @@ same_itself r =
     (and_from (r.request == r.request) (bytes_eq r.payload r.payload) (eq-eqb r.request r.request refl) ((bytes_eq-Decides r.payload r.payload).1 refl))
 
 -- a set with the newest entry's origin too
-more_origin : (e : CommandEntry) (es : List CommandEntry) (mask set : ℕ) → ((k : ℕ) → k < 32 → has_member mask k ≡ is_origin es (row_of e) k)
-    → ((k : ℕ) → has_member set k ≡ (has_member mask k || (k == e.id.origin))) → (k : ℕ) → k < 32 → has_member set k ≡ is_origin (e ∷ es) (row_of e) k
+more_origin : (e : CommandEntry) (es : List CommandEntry) (mask set : OriginSet) → ((k : ℕ) → k < 256 → has_origin mask k ≡ is_origin es (row_of e) k)
+    → ((k : ℕ) → has_origin set k ≡ (has_origin mask k || (k == e.id.origin))) → (k : ℕ) → k < 256 → has_origin set k ≡ is_origin (e ∷ es) (row_of e) k
 more_origin e es mask set old new k l =
     new k
     ∙ (ap₂ (λ a b. a || b) (old k l) (turn k e.id.origin)
@@ -69,12 +57,12 @@ more_origin e es mask set old new k l =
 -- ---- one that enters nothing
 
 -- an entry that adds no origin to its command
-pub nothing_new : (f : ℕ) (e : CommandEntry) (es : List CommandEntry) → ((k : ℕ) → k < 32 → is_origin (e ∷ es) (row_of e) k ≡ is_origin es (row_of e) k) → is_entered f e es (rows_of f es) ≡ false
+pub nothing_new : (f : ℕ) (e : CommandEntry) (es : List CommandEntry) → ((k : ℕ) → k < 256 → is_origin (e ∷ es) (row_of e) k ≡ is_origin es (row_of e) k) → is_entered f e es (rows_of f es) ≡ false
 nothing_new f e es alike =
     false_from_ne_true (is_entered f e es (rows_of f es)) (λ is.
     let it = enters f e es (rows_of f es) is in
     let many = leb-true (f + 1) (origins (e ∷ es) (row_of e)) it.confirmed in
-    let before = count_below (is_origin (e ∷ es) (row_of e)) (is_origin es (row_of e)) 32 alike in
+    let before = counts_below (is_origin (e ∷ es) (row_of e)) (is_origin es (row_of e)) alike in
     both_ways (has_its e (rows_of f es)) it.none (row_covers f es (row_of e) (omega (arith, many, before))))
 
 -- an entry whose client and request have a row
@@ -110,7 +98,7 @@ rows_stay l e es s unentered =
 
 -- a log that is as it was
 pub stays : (l : Ledger) (e : CommandEntry) (es : List CommandEntry) → StandsFor l es → is_entered l.f e es l.rows ≡ false
-    → ((r : Row) → has_row l.rows r.client r.request ≡ false → (k : ℕ) → k < 32 → is_origin es r k ≡ is_origin (e ∷ es) r k) → StandsFor l (e ∷ es)
+    → ((r : Row) → has_row l.rows r.client r.request ≡ false → (k : ℕ) → k < 256 → is_origin es r k ≡ is_origin (e ∷ es) r k) → StandsFor l (e ∷ es)
 stays l e es s unentered alike = record {
   rows = rows_stay l e es s unentered;
   waiting = λ r client request none k small. s.waiting r client request none k small ∙ alike r none k small;
@@ -132,13 +120,12 @@ pub stays_again : (l : Ledger) (e : CommandEntry) (es : List CommandEntry) → h
 stays_again l e es has s =
     stays l e es s (nothing_again l.f e es l.rows has) (λ r none k small. no_origin e es r k (other_command e l.rows r has none))
 
--- where the origin is no replica's, or was one already
-pub known_origin : (e : CommandEntry) (es : List CommandEntry) → (32 ≤ e.id.origin) ⊎ (is_origin es (row_of e) e.id.origin ≡ true) → (r : Row) (k : ℕ) → k < 32 → is_origin (e ∷ es) r k ≡ is_origin es r k
+-- where the origin was one already
+pub known_origin : (e : CommandEntry) (es : List CommandEntry) → is_origin es (row_of e) e.id.origin ≡ true → (r : Row) (k : ℕ) → k < 256 → is_origin (e ∷ es) r k ≡ is_origin es r k
 known_origin e es known r k small = go (is_same_command (row_of e) r && e.id.origin == k) refl
   where
-    there : (32 ≤ e.id.origin) ⊎ (is_origin es (row_of e) e.id.origin ≡ true) → e.id.origin ≡ k → is_same_command (row_of e) r ≡ true → is_origin es r k ≡ true
-    there (inl great) is same = absurd (omega (arith, great, is, small))
-    there (inr old) is same = sym (same_origin es (row_of e) r (one_from (row_of e) r same) k) ∙ (ap (is_origin es (row_of e)) (sym is) ∙ old)
+    there : is_origin es (row_of e) e.id.origin ≡ true → e.id.origin ≡ k → is_same_command (row_of e) r ≡ true → is_origin es r k ≡ true
+    there old is same = sym (same_origin es (row_of e) r (one_from (row_of e) r same) k) ∙ (ap (is_origin es (row_of e)) (sym is) ∙ old)
 
     go : (b : Bool) → (is_same_command (row_of e) r && e.id.origin == k) ≡ b → (b || is_origin es r k) ≡ is_origin es r k
     go true is =
@@ -146,10 +133,10 @@ known_origin e es known r k small = go (is_same_command (row_of e) r && e.id.ori
         sym (there known (eqb-true e.id.origin k parts.1) parts.0)
     go false is = refl
 
-not_known : (l : Ledger) (e : CommandEntry) (es : List CommandEntry) → (32 ≤ e.id.origin) ⊎ (is_origin es (row_of e) e.id.origin ≡ true) → StandsFor l es → is_entered l.f e es l.rows ≡ false
+not_known : (l : Ledger) (e : CommandEntry) (es : List CommandEntry) → is_origin es (row_of e) e.id.origin ≡ true → StandsFor l es → is_entered l.f e es l.rows ≡ false
 not_known l e es known s = ap (is_entered l.f e es) s.rows ∙ nothing_new l.f e es (known_origin e es known (row_of e))
 
-pub stays_known : (l : Ledger) (e : CommandEntry) (es : List CommandEntry) → (32 ≤ e.id.origin) ⊎ (is_origin es (row_of e) e.id.origin ≡ true) → StandsFor l es
+pub stays_known : (l : Ledger) (e : CommandEntry) (es : List CommandEntry) → is_origin es (row_of e) e.id.origin ≡ true → StandsFor l es
     → (None ≡ entered l.f e es) × StandsFor l (e ∷ es)
 stays_known l e es known s =
     let unentered = not_known l e es known s in
@@ -158,13 +145,13 @@ stays_known l e es known s =
 -- ---- what a call finds
 
 -- the client and request of an entry have no row, and these are the origins of its command
-pub record Found (l : Ledger) (e : CommandEntry) (mask : ℕ) : Type 0 where
+pub record Found (l : Ledger) (e : CommandEntry) (mask : OriginSet) : Type 0 where
   pub client : client_of e.command < 4294967296
   pub request : request_of e.command < 4294967296
   pub none : has_its e l.rows ≡ false
   pub mask_is : mask ≡ origins_at l.waiting (key_in e) (drop 8 e.command)
 
-pub found_from : (l : Ledger) (e : CommandEntry) (client request key mask : ℕ) (payload : List ℕ) (waiting : Waiting) → client ≡ client_of e.command → request ≡ request_of e.command
+pub found_from : (l : Ledger) (e : CommandEntry) (client request key : ℕ) (mask : OriginSet) (payload : List ℕ) (waiting : Waiting) → client ≡ client_of e.command → request ≡ request_of e.command
     → client < 4294967296 → request < 4294967296 → key ≡ row_key client request → payload ≡ drop 8 e.command → mask ≡ origins_at waiting key payload → waiting ≡ l.waiting
     → has_its e l.rows ≡ false → Found l e mask
 found_from l e client request key mask payload waiting client_is request_is client_small request_small key_is payload_is mask_is waiting_is none = record {
@@ -174,35 +161,33 @@ found_from l e client request key mask payload waiting client_is request_is clie
   mask_is = mask_is ∙ (ap (λ w. origins_at w key payload) waiting_is ∙ ap₂ (origins_at l.waiting) (key_is ∙ ap₂ row_key client_is request_is) payload_is);
 }
 
-pub members : (l : Ledger) (e : CommandEntry) (es : List CommandEntry) (mask : ℕ) → Found l e mask → StandsFor l es → (k : ℕ) → k < 32 → has_member mask k ≡ is_origin es (row_of e) k
-members l e es mask found s k small = ap (λ m. has_member m k) found.mask_is ∙ s.waiting (row_of e) found.client found.request found.none k small
+pub members : (l : Ledger) (e : CommandEntry) (es : List CommandEntry) (mask : OriginSet) → Found l e mask → StandsFor l es → (k : ℕ) → k < 256 → has_origin mask k ≡ is_origin es (row_of e) k
+members l e es mask found s k small = ap (λ m. has_origin m k) found.mask_is ∙ s.waiting (row_of e) found.client found.request found.none k small
 
--- its origin is no replica's, or was one already
-pub knows : (l : Ledger) (e : CommandEntry) (es : List CommandEntry) (mask : ℕ) → Found l e mask → (32 ≤ e.id.origin) ⊎ ((e.id.origin < 32) × (has_member mask e.id.origin ≡ true)) → StandsFor l es
+-- its origin was one already
+pub knows : (l : Ledger) (e : CommandEntry) (es : List CommandEntry) (mask : OriginSet) → Found l e mask → e.id.origin < 256 → has_origin mask e.id.origin ≡ true → StandsFor l es
     → (None ≡ entered l.f e es) × StandsFor l (e ∷ es)
-knows l e es mask found known s =
-    stays_known l e es
-    (elim known [ inl great ↦ inl great | inr old ↦ inr (sym (members l e es mask found s e.id.origin old.0) ∙ old.1) ]) s
+knows l e es mask found small old s = stays_known l e es (sym (members l e es mask found s e.id.origin small) ∙ old) s
 
 -- or it is a new one
-pub is_first : (l : Ledger) (e : CommandEntry) (es : List CommandEntry) (mask : ℕ) → Found l e mask → e.id.origin < 32 → has_member mask e.id.origin ≡ false → StandsFor l es
+pub is_first : (l : Ledger) (e : CommandEntry) (es : List CommandEntry) (mask : OriginSet) → Found l e mask → e.id.origin < 256 → has_origin mask e.id.origin ≡ false → StandsFor l es
     → is_origin es (row_of e) e.id.origin ≡ false
 is_first l e es mask found small new s = sym (members l e es mask found s e.id.origin small) ∙ new
 
 -- the origins with that one
-pub record Joined (mask set origin : ℕ) : Type 0 where
-  pub is : (k : ℕ) → has_member set k ≡ (has_member mask k || (k == origin))
+pub record Joined (mask set : OriginSet) (origin : ℕ) : Type 0 where
+  pub is : (k : ℕ) → has_origin set k ≡ (has_origin mask k || (k == origin))
 
-joined : (l : Ledger) (e : CommandEntry) (es : List CommandEntry) (mask set : ℕ) → Found l e mask → Joined mask set e.id.origin → StandsFor l es
-    → (k : ℕ) → k < 32 → has_member set k ≡ is_origin (e ∷ es) (row_of e) k
+joined : (l : Ledger) (e : CommandEntry) (es : List CommandEntry) (mask set : OriginSet) → Found l e mask → Joined mask set e.id.origin → StandsFor l es
+    → (k : ℕ) → k < 256 → has_origin set k ≡ is_origin (e ∷ es) (row_of e) k
 joined l e es mask set found join s = more_origin e es mask set (members l e es mask found s) join.is
 
-pub is_few : (l : Ledger) (e : CommandEntry) (es : List CommandEntry) (mask set : ℕ) → Found l e mask → Joined mask set e.id.origin → member_count 32 set ≤ l.f → StandsFor l es
+pub is_few : (l : Ledger) (e : CommandEntry) (es : List CommandEntry) (mask set : OriginSet) → Found l e mask → Joined mask set e.id.origin → origin_count set ≤ l.f → StandsFor l es
     → is_entered l.f e es l.rows ≡ false
 is_few l e es mask set found join few s =
     let count = counted set (e ∷ es) (row_of e) (joined l e es mask set found join s) in too_few l.f e es l.rows (omega (arith, count, few))
 
-pub is_enough : (l : Ledger) (e : CommandEntry) (es : List CommandEntry) (mask set : ℕ) → Found l e mask → Joined mask set e.id.origin → l.f < member_count 32 set → StandsFor l es
+pub is_enough : (l : Ledger) (e : CommandEntry) (es : List CommandEntry) (mask set : OriginSet) → Found l e mask → Joined mask set e.id.origin → l.f < origin_count set → StandsFor l es
     → is_entered l.f e es l.rows ≡ true
 is_enough l e es mask set found join many s =
     let count = counted set (e ∷ es) (row_of e) (joined l e es mask set found join s) in enough l.f e es l.rows found.none (omega (arith, count, many))
@@ -229,19 +214,19 @@ other_key e rs client request small other none has =
     let parts = and_parts (client_of e.command == client) (request_of e.command == request) is in
     both_ways (has_its e rs) none (ap₂ (has_row rs) (eqb-true (client_of e.command) client parts.0) (eqb-true (request_of e.command) request parts.1) ∙ has))
 
-pub stays_kept : (old new : Ledger) (e : CommandEntry) (es : List CommandEntry) (mask set : ℕ) → Found old e mask → Joined mask set e.id.origin → WaitsWith old new (row_of e) set
+pub stays_kept : (old new : Ledger) (e : CommandEntry) (es : List CommandEntry) (mask set : OriginSet) → Found old e mask → Joined mask set e.id.origin → WaitsWith old new (row_of e) set
     → is_entered old.f e es old.rows ≡ false → StandsFor old es → StandsFor new (e ∷ es)
 stays_kept old new e es mask set found join keeps unentered s = record {
   rows = keeps.rows ∙ (rows_stay old e es s unentered ∙ ap (λ f. rows_of f (e ∷ es)) (sym keeps.f));
   waiting = λ r client request free k l.
-      ap (λ m. has_member m k) (keeps.waiting (row_key r.client r.request) r.payload ∙ ap (λ (b : Bool). if b then set else origins_at old.waiting (row_key r.client r.request) r.payload) (same_test e r found.request request))
+      ap (λ m. has_origin m k) (keeps.waiting (row_key r.client r.request) r.payload ∙ ap (λ (b : Bool). if b then set else origins_at old.waiting (row_key r.client r.request) r.payload) (same_test e r found.request request))
       ∙ now r (origins_at old.waiting (row_key r.client r.request) r.payload) k l (s.waiting r client request (ap (λ rs. has_row rs r.client r.request) (sym keeps.rows) ∙ free) k l) (is_same_command (row_of e) r) refl;
   gone = λ client request a b has.
       let there = ap (λ rs. has_row rs client request) (sym keeps.rows) ∙ has in
       keeps.others (row_key client request) (other_key e old.rows client request found.request b found.none there) ∙ s.gone client request a b there;
 }
   where
-    now : (r : Row) (m k : ℕ) → k < 32 → has_member m k ≡ is_origin es r k → (b : Bool) → is_same_command (row_of e) r ≡ b → has_member (if b then set else m) k ≡ is_origin (e ∷ es) r k
+    now : (r : Row) (m : OriginSet) (k : ℕ) → k < 256 → has_origin m k ≡ is_origin es r k → (b : Bool) → is_same_command (row_of e) r ≡ b → has_origin (if b then set else m) k ≡ is_origin (e ∷ es) r k
     now r m k l before true is = joined old e es mask set found join s k l ∙ same_origin (e ∷ es) (row_of e) r (one_from (row_of e) r is) k
     now r m k l before false is = before ∙ no_origin e es r k is
 
@@ -272,10 +257,10 @@ stays_entered old new e es now small entering s = record {
         ∙ ap (λ (t : Bool). if t then None else payloads_at old.waiting (row_key client request)) (key_eq (client_of e.command) (request_of e.command) client request small other ∙ is)
 
     wait : (r : Row) → r.client < 4294967296 → r.request < 4294967296 → (b : Bool) → is_its e r.client r.request ≡ b → (b || has_row old.rows r.client r.request) ≡ false
-        → (k : ℕ) → k < 32 → has_member (origins_at new.waiting (row_key r.client r.request) r.payload) k ≡ is_origin (e ∷ es) r k
+        → (k : ℕ) → k < 256 → has_origin (origins_at new.waiting (row_key r.client r.request) r.payload) k ≡ is_origin (e ∷ es) r k
     wait r client request true is free k l = absurd (both_ways true free refl)
     wait r client request false is free k l =
-        ap (λ o. has_member (origins_of o r.payload) k) (payloads r.client r.request false request is)
+        ap (λ o. has_origin (origins_of o r.payload) k) (payloads r.client r.request false request is)
         ∙ (s.waiting r client request free k l
         ∙ no_origin e es r k
         (false_from_ne_true (is_same_command (row_of e) r) (λ same.
@@ -294,7 +279,7 @@ pub stays_wanting : (old new : Ledger) (e : CommandEntry) (es : List CommandEntr
 stays_wanting old new e es keeps small none s = record {
   rows = keeps.rows ∙ (s.rows ∙ ap (λ f. rows_of f es) (sym keeps.f));
   waiting = λ r client request free k l.
-      ap (λ m. has_member m k) (keeps.waiting (row_key r.client r.request) r.payload)
+      ap (λ m. has_origin m k) (keeps.waiting (row_key r.client r.request) r.payload)
       ∙ s.waiting r client request (ap (λ rs. has_row rs r.client r.request) (sym keeps.rows) ∙ free) k l;
   gone = λ client request a b has.
       let there = ap (λ rs. has_row rs client request) (sym keeps.rows) ∙ has in
@@ -304,9 +289,9 @@ stays_wanting old new e es keeps small none s = record {
 -- ---- what a call leaves
 
 -- what `settle` ensures
-pub record Settles {M : Type 0} (old new : Ledger) (r : Row) (set : ℕ) (result : Result (Option ℕ) M) : Type 0 where
-  pub many : old.f < member_count 32 set → IfOk result (λ position. position ≡ Some (length old.rows)) × OnOk result (HasEntered old new r)
-  pub few : member_count 32 set ≤ old.f → IfOk result (λ position. position ≡ None) × OnOk result (WaitsWith old new r set)
+pub record Settles {M : Type 0} (old new : Ledger) (r : Row) (set : OriginSet) (result : Result (Option ℕ) M) : Type 0 where
+  pub many : old.f < origin_count set → IfOk result (λ position. position ≡ Some (length old.rows)) × OnOk result (HasEntered old new r)
+  pub few : origin_count set ≤ old.f → IfOk result (λ position. position ≡ None) × OnOk result (WaitsWith old new r set)
   pub err : OnErr result (IsEntryLost old new r)
 
 if_ok : {A M : Type 0} {P Q : A → Type 0} (result : Result A M) → ((x : A) → P x → Q x) → IfOk result P → IfOk result Q
@@ -321,17 +306,17 @@ on_err : {A M P Q : Type 0} (result : Result A M) → (P → Q) → OnErr result
 on_err (Ok x) more p = p
 on_err (Err fault) more p = more p
 
-module _ {M : Type 0} (old new : Ledger) (e : CommandEntry) (es : List CommandEntry) (mask set : ℕ) (result : Result (Option ℕ) M) where
+module _ {M : Type 0} (old new : Ledger) (e : CommandEntry) (es : List CommandEntry) (mask set : OriginSet) (result : Result (Option ℕ) M) where
   pub settled_position : Found old e mask → Joined mask set e.id.origin → Settles old new (row_of e) set result → StandsFor old es → IfOk result (λ position. position ≡ entered old.f e es)
   settled_position found join settles s =
-      elim (cases_lt old.f (member_count 32 set)) [
+      elim (cases_lt old.f (origin_count set)) [
         | inl many ↦ if_ok result (λ position is. is ∙ answer_some old e es (length old.rows) s (is_enough old e es mask set found join many s) refl) (settles.many many).0
         | inr few ↦ if_ok result (λ position is. is ∙ answer_none old e es s (is_few old e es mask set found join few s)) (settles.few few).0
       ]
 
   pub settled_ok : Found old e mask → Joined mask set e.id.origin → Settles old new (row_of e) set result → StandsFor old es → OnOk result (StandsFor new (e ∷ es))
   settled_ok found join settles s =
-      elim (cases_lt old.f (member_count 32 set)) [
+      elim (cases_lt old.f (origin_count set)) [
         | inl many ↦ on_ok result (λ now. stays_entered old new e es now found.request (is_enough old e es mask set found join many s) s) (settles.many many).1
         | inr few ↦ on_ok result (λ waits. stays_kept old new e es mask set found join waits (is_few old e es mask set found join few s) s) (settles.few few).1
       ]
@@ -341,14 +326,19 @@ module _ {M : Type 0} (old new : Ledger) (e : CommandEntry) (es : List CommandEn
 
 -- ---- at first
 
-zero_member : (k : ℕ) → has_member 0 k ≡ false
+zero_in : (n q : ℕ) → ◌≡◌ {A = ℕ} (slice_index_or (replicate n 0) q 0) 0
+zero_in zero q = refl
+zero_in (suc n) zero = refl
+zero_in (suc n) (suc q) = zero_in n q
+
+zero_member : (k : ℕ) → has_origin no_origins k ≡ false
 unfolding has_member
-zero_member k = ap (λ (b : ℕ). b == 1) (bit_at-zero k)
+zero_member k = ap (λ (m : ℕ). has_member m (k % 32)) (zero_in 8 (k / 32)) ∙ ap (λ (b : ℕ). b == 1) (bit_at-zero (k % 32))
 
 -- a log of which nothing is known but that it is empty
 pub stands_new : (l : Ledger) → l.rows ≡ [] → ((key : ℕ) → payloads_at l.waiting key ≡ None) → StandsFor l []
 stands_new l rows nothing = record {
   rows = rows;
-  waiting = λ r client request free k l2. ap (λ o. has_member (origins_of o r.payload) k) (nothing (row_key r.client r.request)) ∙ zero_member k;
+  waiting = λ r client request free k l2. ap (λ o. has_origin (origins_of o r.payload) k) (nothing (row_key r.client r.request)) ∙ zero_member k;
   gone = λ client request a b has. nothing (row_key client request);
 }

@@ -1,3 +1,4 @@
+pub mod OriginSets
 pub mod Places
 pub mod Kept
 pub mod Confirming

@@ -1,5 +1,5 @@
 -- Where rows stand: a position is that of a row exactly where the row stands there.
-use Rattle.std.specs.Prelude.{◌≡◌, ℕ, zero, suc, ◌+◌, ◌<◌, Bool, true, false, ◌==◌, ◌&&◌, ◌||◌, if◌then◌else◌, List, [], ◌∷◌, ◌++◌, length, drop, reverse, slice_get, Option, None, Some, is_some, Result, Ok, Err, OnErr, refl, ◌⊎◌}
+use Rattle.std.specs.Prelude.{◌≡◌, ℕ, zero, suc, ◌+◌, ◌<◌, Bool, true, false, ◌==◌, ◌&&◌, ◌||◌, if◌then◌else◌, List, [], ◌∷◌, ◌++◌, length, drop, reverse, slice_get, Option, Some, is_some, Result, Ok, Err, OnErr, refl, ◌⊎◌}
 use Rattle.std.proofs.Common.{sym, ◌∙◌, ap, ap₂, subst, inl, inr, eqb-true, arith}
 use mathlib.Core.List.{reverse-cons}
 use Rattle.std.proofs.lemmas.List.{length-reverse, reverse-append}
@@ -10,7 +10,6 @@ use Rattle.std.proofs.lemmas.Map.Lookups.{exact_unsigned}
 use Rattle.std.specs.Cmp.{nat_cmp_total}
 use Rattle.std.proofs.lemmas.Cmp.{tied_itself}
 use Rattle.ritas_base.specs.SlotOrder.{equal_from}
-use Rattle.ritas_base.specs.declared.id.Id.{Id}
 use Rattle.command_log.specs.Rows.{CommandEntry, Row, client_of, request_of, row_of, has_row, row_at, position_of, AreOnce, HasPlace}
 use Rattle.command_log.specs.Index.{row_key, IsIndexed}
 

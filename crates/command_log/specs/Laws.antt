@@ -1,6 +1,6 @@
 -- Each client and request has one row; the rows of a part of a log are a part of its rows; each row is that of an entry, and its
 -- command has f + 1 origins; and a command that has so many has a row of its client and request.
-use Rattle.std.specs.Prelude.{◌≡◌, ℕ, ◌+◌, ◌<◌, ◌≤◌, Bool, true, false, not, nat_le, ◌==◌, ◌&&◌, ◌||◌, if◌then◌else◌, List, [], ◌∷◌, ◌++◌, Option, unwrap_or, refl, ◌⊎◌}
+use Rattle.std.specs.Prelude.{◌≡◌, ℕ, ◌+◌, ◌<◌, ◌≤◌, Bool, true, false, not, ◌==◌, ◌&&◌, ◌||◌, if◌then◌else◌, List, [], ◌∷◌, ◌++◌, Option, unwrap_or, refl, ◌⊎◌}
 use Rattle.std.specs.Str.{bytes_eq}
 use Rattle.std.proofs.Common.{sym, ◌∙◌, ap, ap₂, subst, inl, inr, arith}
 use Rattle.std.proofs.lemmas.Bool.{cases_Bool, cases_lt, and_parts, and_from, or_cases, both_ways, eq-eqb, eqb-true, leb-true, le-leb, or_left, or_right}
@@ -9,7 +9,7 @@ use Rattle.ritas_base.specs.declared.id.Id.{Id}
 use Rattle.ritas_base.specs.History.{replicas}
 use Rattle.ritas_base.specs.Quorums.{count_more, count_none, count_same}
 use Rattle.layer_api.specs.Service.{IsPart}
-use Rattle.command_log.specs.Rows.{CommandEntry, Row, client_of, request_of, row_of, has_row, is_same_command, is_origin, origins, is_confirmed, is_entered, rows_with, rows_of, entry_of_id, entries_of_log, command_rows, AreOnce, IsIn, HasRow}
+use Rattle.command_log.specs.Rows.{CommandEntry, Row, client_of, request_of, row_of, has_row, is_same_command, is_origin, count_origins, origins, is_confirmed, is_entered, rows_with, rows_of, entry_of_id, entries_of_log, command_rows, AreOnce, IsIn, HasRow}
 
 -- ---- what becomes of an entry
 
@@ -101,10 +101,22 @@ row_is f a (x ∷ xs) r h =
 
 -- ---- its command is confirmed
 
+counts_more : (p q : ℕ → Bool) → ((k : ℕ) → p k ≡ true → q k ≡ true) → count_origins p ≤ count_origins q
+unfolding count_origins
+counts_more p q more = count_more p q more (replicas 256)
+
+counts_none : (p : ℕ → Bool) → ((k : ℕ) → p k ≡ true → ⊥) → count_origins p ≡ 0
+unfolding count_origins
+counts_none p none = count_none p (replicas 256) none
+
+counts_same : (p q : ℕ → Bool) → ((k : ℕ) → p k ≡ q k) → count_origins p ≡ count_origins q
+unfolding count_origins
+counts_same p q alike = count_same p q alike (replicas 256)
+
 -- more entries have no fewer origins
 origins_more : (e : CommandEntry) (es : List CommandEntry) (r : Row) → origins es r ≤ origins (e ∷ es) r
 origins_more e es r =
-    count_more (is_origin es r) (is_origin (e ∷ es) r) (λ k there. or_right (is_same_command (row_of e) r && e.id.origin == k) (is_origin es r k) there) (replicas 32)
+    counts_more (is_origin es r) (is_origin (e ∷ es) r) (λ k there. or_right (is_same_command (row_of e) r && e.id.origin == k) (is_origin es r k) there)
 
 -- each row's command has f + 1 origins
 pub row_confirmed : (f : ℕ) (es : List CommandEntry) (r : Row) → HasRow (rows_of f es) r → f < origins es r
@@ -164,7 +176,7 @@ row_here f e es rs confirmed = go (has_its e rs) refl
 
 -- each command with f + 1 origins has a row of its client and request
 pub row_covers : (f : ℕ) (es : List CommandEntry) (r : Row) → f < origins es r → has_row (rows_of f es) r.client r.request ≡ true
-row_covers f [] r many = let none = count_none (is_origin [] r) (replicas 32) (λ k is. both_ways false refl is) in absurd (omega (arith, many, none))
+row_covers f [] r many = let none = counts_none (is_origin [] r) (λ k is. both_ways false refl is) in absurd (omega (arith, many, none))
 row_covers f (e ∷ es) r many =
     elim (cases_lt f (origins es r)) [
       | inl before ↦ row_stays f e es (rows_of f es) r.client r.request (row_covers f es r before)
@@ -172,11 +184,11 @@ row_covers f (e ∷ es) r many =
           elim (cases_Bool (is_same_command (row_of e) r)) [
             | inl same ↦
                 let one = one_from (row_of e) r same in
-                let alike = count_same (is_origin (e ∷ es) (row_of e)) (is_origin (e ∷ es) r) (same_origin (e ∷ es) (row_of e) r one) (replicas 32) in
+                let alike = counts_same (is_origin (e ∷ es) (row_of e)) (is_origin (e ∷ es) r) (same_origin (e ∷ es) (row_of e) r one) in
                 let here = row_here f e es (rows_of f es) (le-leb (f + 1) (origins (e ∷ es) (row_of e)) (omega (arith, alike, many))) in
                 sym (ap₂ (λ c n. has_row (rows_of f (e ∷ es)) c n) one.client one.request) ∙ here
             | inr other ↦
-                let alike = count_same (is_origin (e ∷ es) r) (is_origin es r) (λ k. ap (λ (b : Bool). (b && e.id.origin == k) || is_origin es r k) other) (replicas 32) in
+                let alike = counts_same (is_origin (e ∷ es) r) (is_origin es r) (λ k. ap (λ (b : Bool). (b && e.id.origin == k) || is_origin es r k) other) in
                 absurd (omega (arith, alike, many, few))
           ]
     ]

@@ -1,4 +1,5 @@
 pub mod Rows
+pub mod Origins
 pub mod Index
 pub mod ByteKeys
 pub mod Standing

@@ -42,9 +42,13 @@ abbrev pub is_origin : List CommandEntry → Row → ℕ → Bool
 is_origin [] r k = false
 is_origin (e ∷ es) r k = (is_same_command (row_of e) r && e.id.origin == k) || is_origin es r k
 
--- how many replicas are; their numbers are below 32
+-- how many numbers pass a test, where the number of an origin is a byte
+unfoldable pub count_origins : (ℕ → Bool) → ℕ
+count_origins test = count_by test (replicas 256)
+
+-- how many replicas are origins of the command of r
 abbrev pub origins : List CommandEntry → Row → ℕ
-origins es r = count_by (is_origin es r) (replicas 32)
+origins es r = count_origins (is_origin es r)
 
 -- f + 1 origins confirm a command: one of them is correct
 abbrev pub is_confirmed : ℕ → List CommandEntry → Row → Bool

@@ -6,10 +6,11 @@ use Rattle.std.specs.BTreeMap.{BTreeMap, get, get_by}
 use Rattle.std.specs.declared.vec.Vec.{Vec}
 use Rattle.std.specs.Str.{bytes_eq}
 use Rattle.std.proofs.Common.{Global}
-use Rattle.ritas_base.specs.Members.{has_member}
+use Rattle.command_log.specs.declared.origins.OriginSet.{OriginSet}
 use Rattle.command_log.specs.declared.waiting.Waiting.{Waiting}
 use Rattle.command_log.specs.Rows.{CommandEntry, Row, has_row, is_origin, rows_of}
 use Rattle.command_log.specs.Index.{row_key}
+use Rattle.command_log.specs.Origins.{has_origin, no_origins}
 
 -- what a log keeps: its rows, and the origins of the commands that wait
 pub record Ledger : Type 0 where
@@ -19,21 +20,21 @@ pub record Ledger : Type 0 where
 
 -- by their payloads, the origins of commands of one client and request
 abbrev pub Payloads : Type 0
-Payloads = BTreeMap (Vec ℕ Global) ℕ
+Payloads = BTreeMap (Vec ℕ Global) OriginSet
 
 -- those that are kept under a key
 abbrev pub payloads_at : Waiting → ℕ → Option Payloads
 payloads_at w key = get nat_cmp w.by_key key
 
 -- the origins of the command with this payload
-abbrev pub origins_in : Payloads → List ℕ → ℕ
-origins_in payloads payload = unwrap_or (get_by (λ k. slice_cmp nat_cmp payload k.items) payloads) 0
+abbrev pub origins_in : Payloads → List ℕ → OriginSet
+origins_in payloads payload = unwrap_or (get_by (λ k. slice_cmp nat_cmp payload k.items) payloads) no_origins
 
-abbrev pub origins_of : Option Payloads → List ℕ → ℕ
-origins_of None payload = 0
+abbrev pub origins_of : Option Payloads → List ℕ → OriginSet
+origins_of None payload = no_origins
 origins_of (Some payloads) payload = origins_in payloads payload
 
-abbrev pub origins_at : Waiting → ℕ → List ℕ → ℕ
+abbrev pub origins_at : Waiting → ℕ → List ℕ → OriginSet
 origins_at w key payload = origins_of (payloads_at w key) payload
 
 -- the log stands for these entries
@@ -41,7 +42,7 @@ pub record StandsFor (l : Ledger) (es : List CommandEntry) : Type 0 where
   pub rows : l.rows ≡ rows_of l.f es
   -- of a command whose client and request have no row its origins are kept
   pub waiting : (r : Row) → r.client < 4294967296 → r.request < 4294967296 → has_row l.rows r.client r.request ≡ false
-      → (k : ℕ) → k < 32 → has_member (origins_at l.waiting (row_key r.client r.request) r.payload) k ≡ is_origin es r k
+      → (k : ℕ) → k < 256 → has_origin (origins_at l.waiting (row_key r.client r.request) r.payload) k ≡ is_origin es r k
   -- and where they have one, nothing is
   pub gone : (client request : ℕ) → client < 4294967296 → request < 4294967296 → has_row l.rows client request ≡ true
       → payloads_at l.waiting (row_key client request) ≡ None
@@ -55,7 +56,7 @@ pub record HasEntered (old new : Ledger) (r : Row) : Type 0 where
   pub waiting : (k : ℕ) → payloads_at new.waiting k ≡ (if row_key r.client r.request == k then None else payloads_at old.waiting k)
 
 -- it waits with these origins
-pub record WaitsWith (old new : Ledger) (r : Row) (origins : ℕ) : Type 0 where
+pub record WaitsWith (old new : Ledger) (r : Row) (origins : OriginSet) : Type 0 where
   pub f : new.f ≡ old.f
   pub rows : new.rows ≡ old.rows
   pub waiting : (k : ℕ) (v : List ℕ) → origins_at new.waiting k v ≡ (if row_key r.client r.request == k && bytes_eq r.payload v then origins else origins_at old.waiting k v)

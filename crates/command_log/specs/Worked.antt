@@ -1,7 +1,7 @@
 -- Worked rows.
 use Rattle.std.specs.Prelude.{◌≡◌, ℕ, List, [], ◌∷◌, Option, None, Some, refl}
 use Rattle.ritas_base.specs.declared.id.Id.{Id}
-use Rattle.command_log.specs.Rows.{CommandEntry, Row, origins, rows_of, command_rows, row_at, position_of, entered}
+use Rattle.command_log.specs.Rows.{CommandEntry, Row, count_origins, origins, rows_of, command_rows, row_at, position_of, entered}
 
 abbrev id : ℕ → ℕ → Id
 id origin num = record { origin = origin; num = num }
@@ -26,52 +26,65 @@ row origin request = record { id = id origin 0; client = 7; request = request; p
 
 -- one origin enters nothing
 one : rows_of 1 (entry 0 1 ∷ []) ≡ []
+unfolding count_origins
 one = refl
 
 -- nor does it by coming again
 again : rows_of 1 (record { id = id 0 1; command = hi 1 } ∷ entry 0 1 ∷ []) ≡ []
+unfolding count_origins
 again = refl
 
 -- a second origin enters the row, with its own identifier
 second : rows_of 1 (entry 2 1 ∷ entry 0 1 ∷ []) ≡ row 2 1 ∷ []
+unfolding count_origins
 second = refl
 
 -- two payloads of one request don't count together
 payloads : rows_of 1 (other 2 1 ∷ entry 0 1 ∷ []) ≡ []
+unfolding count_origins
 payloads = refl
 
 -- nor do two requests, or two clients
 requests : rows_of 1 (entry 2 2 ∷ entry 0 1 ∷ []) ≡ []
+unfolding count_origins
 requests = refl
 
 clients : rows_of 1 (record { id = id 2 0; command = 0 ∷ 0 ∷ 0 ∷ 8 ∷ 0 ∷ 0 ∷ 0 ∷ 1 ∷ 0x68 ∷ 0x69 ∷ [] } ∷ entry 0 1 ∷ []) ≡ []
+unfolding count_origins
 clients = refl
 
 -- what came between doesn't count, and doesn't take away
 between : rows_of 1 (entry 3 1 ∷ other 2 1 ∷ entry 0 1 ∷ []) ≡ row 3 1 ∷ []
+unfolding count_origins
 between = refl
 
 -- a request that has its row gets no second one
 third : rows_of 1 (entry 1 1 ∷ entry 2 1 ∷ entry 0 1 ∷ []) ≡ row 2 1 ∷ []
+unfolding count_origins
 third = refl
 
 -- also not where another payload is confirmed later
 late : rows_of 1 (other 3 1 ∷ other 1 1 ∷ entry 2 1 ∷ entry 0 1 ∷ []) ≡ row 2 1 ∷ []
+unfolding count_origins
 late = refl
 
--- numbers from 32 on are no replica's
-no_replica : origins (entry 32 1 ∷ entry 31 1 ∷ []) (row 0 1) ≡ 1
-no_replica = refl
+-- whatever its number, an origin counts
+all_count : origins (entry 255 1 ∷ entry 32 1 ∷ entry 31 1 ∷ []) (row 0 1) ≡ 3
+unfolding count_origins
+all_count = refl
 
 -- ---- with f = 0 each client and request has the row of its first place
 
 first : rows_of 0 (entry 0 1 ∷ []) ≡ row 0 1 ∷ []
+unfolding count_origins
 first = refl
 
 once : rows_of 0 (entry 1 1 ∷ entry 0 1 ∷ []) ≡ row 0 1 ∷ []
+unfolding count_origins
 once = refl
 
 two : rows_of 0 (entry 2 2 ∷ entry 1 1 ∷ entry 0 1 ∷ []) ≡ row 2 2 ∷ row 0 1 ∷ []
+unfolding count_origins
 two = refl
 
 -- ---- positions count from 0, in the order of entry
@@ -80,24 +93,31 @@ abbrev three : List CommandEntry
 three = entry 2 2 ∷ entry 1 1 ∷ entry 0 1 ∷ []
 
 first_row : row_at (rows_of 0 three) 0 ≡ Some (row 0 1)
+unfolding count_origins
 first_row = refl
 
 second_row : row_at (rows_of 0 three) 1 ≡ Some (row 2 2)
+unfolding count_origins
 second_row = refl
 
 no_row : row_at (rows_of 0 three) 2 ≡ None
+unfolding count_origins
 no_row = refl
 
 found : position_of (rows_of 0 three) 7 2 ≡ Some 1
+unfolding count_origins
 found = refl
 
 not_found : position_of (rows_of 0 three) 8 2 ≡ None
+unfolding count_origins
 not_found = refl
 
 has_one : entered 0 (entry 3 2) three ≡ None
+unfolding count_origins
 has_one = refl
 
 next : entered 0 (entry 3 9) three ≡ Some 2
+unfolding count_origins
 next = refl
 
 -- ---- a command without a payload, of four identifiers, with f = 1
@@ -106,15 +126,19 @@ abbrev short : ℕ → ℕ → CommandEntry
 short origin num = record { id = id origin num; command = 0 ∷ 0 ∷ 0 ∷ 7 ∷ 0 ∷ 0 ∷ 0 ∷ 1 ∷ [] }
 
 at_first : entered 1 (short 0 0) [] ≡ None
+unfolding count_origins
 at_first = refl
 
 at_second : entered 1 (short 0 1) (short 0 0 ∷ []) ≡ None
+unfolding count_origins
 at_second = refl
 
 at_third : entered 1 (short 2 0) (short 0 1 ∷ short 0 0 ∷ []) ≡ Some 0
+unfolding count_origins
 at_third = refl
 
 at_fourth : entered 1 (short 1 0) (short 2 0 ∷ short 0 1 ∷ short 0 0 ∷ []) ≡ None
+unfolding count_origins
 at_fourth = refl
 
 -- ---- a request that each origin broadcast under the request's number
@@ -125,4 +149,5 @@ delivered x = Some (hi x.num)
 -- the rows of an identifier log
 of_identifiers : command_rows 1 delivered (id 3 2 ∷ id 2 2 ∷ id 1 1 ∷ id 0 1 ∷ [])
     ≡ record { id = id 3 2; client = 7; request = 2; payload = 0x68 ∷ 0x69 ∷ [] } ∷ record { id = id 1 1; client = 7; request = 1; payload = 0x68 ∷ 0x69 ∷ [] } ∷ []
+unfolding count_origins
 of_identifiers = refl

@@ -35,6 +35,7 @@
 
 mod laws;
 mod log;
+mod origins;
 mod row;
 mod waiting;
 

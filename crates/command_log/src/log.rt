@@ -4,14 +4,15 @@ ghost use Rattle.std.specs.Prelude.{◌≡◌, ℕ, ◌+◌, ◌<◌, ◌≤◌,
 ghost use Rattle.std.specs.Option.{option_copied};
 ghost use Rattle.std.specs.Int.{w32, from_be_bytes};
 ghost use Rattle.ritas_base.specs.Limits.{least_request};
-ghost use Rattle.ritas_base.specs.Members.{member_count};
+ghost use Rattle.command_log.specs.Origins.{origin_count};
 ghost use Rattle.command_log.specs.Rows.{CommandEntry, client_of, request_of, row_of, has_row, is_origin, row_at, position_of, entered, HasPlace};
 ghost use Rattle.command_log.specs.Index.{row_key};
 ghost use Rattle.command_log.specs.Standing.{StandsFor, HasEntered, WaitsWith, IsEntryLost};
 
+use crate::origins::OriginSet;
 use crate::row::LogRow;
 use crate::waiting::Waiting;
-use ritas_base::{Bytes, Id, Mem, SenderSet};
+use ritas_base::{Bytes, Id, Mem};
 use std::alloc::Global;
 use std::collections::BTreeMap;
 use std::marker::Model;
@@ -126,18 +127,18 @@ impl Log {
         client: u32,
         request: u32,
         payload: &[u8],
-        origins: SenderSet,
+        origins: OriginSet,
     ) -> Result<Option<u32>, Mem>
         requires none { has_row self.old.rows client request ≡ false }
         requires room { length self.old.rows < 4294967295 }
-        ensures many { self.old.f < member_count 32 origins → IfOk result (λ position. position ≡ Some (length self.old.rows))
+        ensures many { self.old.f < origin_count origins → IfOk result (λ position. position ≡ Some (length self.old.rows))
             × OnOk result (HasEntered self.old self.new (record { id = id; client = client; request = request; payload = payload.now })) }
-        ensures few { member_count 32 origins ≤ self.old.f → IfOk result (λ position. position ≡ None)
+        ensures few { origin_count origins ≤ self.old.f → IfOk result (λ position. position ≡ None)
             × OnOk result (WaitsWith self.old self.new (record { id = id; client = client; request = request; payload = payload.now }) origins) }
         ensures err { OnErr result (IsEntryLost self.old self.new (record { id = id; client = client; request = request; payload = payload.now })) }
         ensures f { self.new.f ≡ self.old.f }
     {
-        if origins.len() > self.f {
+        if origins.len() > u16::from(self.f) {
             return Ok(Some(self.enter(alloc, id, client, request, payload)?));
         }
         self.waiting
@@ -149,10 +150,10 @@ impl Log {
     /// position is answered.
     ///
     /// The command has its client's number and its request's, of four bytes each, the most significant first, and then its
-    /// payload. It is confirmed as soon as it came from f + 1 different origins; 32 and greater numbers are no replica's,
-    /// and don't count. `None` is answered where it isn't confirmed yet, and where its client and request have a row. The log
-    /// has at most 4,294,967,295 rows. The one error is want of memory, after which the log is as it was; it comes only
-    /// where the client and request have no row, and where the command hasn't come from this origin before.
+    /// payload. It is confirmed as soon as it came from f + 1 different origins. `None` is answered where it isn't confirmed yet,
+    /// and where its client and request have a row. The log has at most 4,294,967,295 rows. The one error is want of memory,
+    /// after which the log is as it was; it comes only where the client and request have no row, and where the command hasn't
+    /// come from this origin before.
     pub fn append(&mut self, alloc: Global, id: Id, command: &[u8]) -> Result<Option<u32>, Mem>
         requires long { least_request ≤ length command.now }
         requires room { length self.old.rows < 4294967295 }
@@ -171,7 +172,7 @@ impl Log {
         }
         let payload = payload_of(command);
         let origins = self.waiting.origins(key_of(client, request), payload);
-        if id.origin >= 32 || origins.has(id.origin) {
+        if origins.has(id.origin) {
             return Ok(None);
         }
         self.settle(alloc, id, client, request, payload, origins.with(id.origin))

@@ -3,32 +3,33 @@ ghost use Rattle.std.specs.Prelude.{◌≡◌, ◌==◌, ◌&&◌, ℕ, List, No
 ghost use Rattle.std.specs.Str.{bytes_eq};
 ghost use Rattle.command_log.specs.Standing.{origins_in, origins_at, payloads_at};
 
-use ritas_base::{Mem, SenderSet};
+use crate::origins::OriginSet;
+use ritas_base::Mem;
 use std::alloc::Global;
 use std::collections::BTreeMap;
 
 /// For each client and request, by their key, the payloads of their commands with the origins of each.
 #[derive(Drop)]
 pub(crate) struct Waiting {
-    by_key: BTreeMap<u64, BTreeMap<Vec<u8>, SenderSet>>,
+    by_key: BTreeMap<u64, BTreeMap<Vec<u8>, OriginSet>>,
 }
 
 // The origins of the command with this payload.
-fn origins_in(payloads: &BTreeMap<Vec<u8>, SenderSet>, payload: &[u8]) -> SenderSet
+fn origins_in(payloads: &BTreeMap<Vec<u8>, OriginSet>, payload: &[u8]) -> OriginSet
     ensures { result ≡ origins_in payloads.now payload.now }
 {
     match payloads.get(payload) {
         Some(origins) => *origins,
-        None => SenderSet::from_mask(0),
+        None => OriginSet::empty(),
     }
 }
 
 // The command with this payload has these origins. The one error is want of memory.
 fn put(
     alloc: Global,
-    payloads: &mut BTreeMap<Vec<u8>, SenderSet>,
+    payloads: &mut BTreeMap<Vec<u8>, OriginSet>,
     payload: &[u8],
-    origins: SenderSet,
+    origins: OriginSet,
 ) -> Result<(), Mem>
     ensures ok { OnOk result ((v : List ℕ) → origins_in payloads.new v ≡ (if bytes_eq payload.now v then origins else origins_in payloads.old v)) }
     ensures err { OnErr result ((v : List ℕ) → origins_in payloads.new v ≡ origins_in payloads.old v) }
@@ -48,12 +49,12 @@ impl Waiting {
     }
 
     /// The origins of the command with this key and payload, of which there may be none.
-    pub(crate) fn origins(&self, key: u64, payload: &[u8]) -> SenderSet
+    pub(crate) fn origins(&self, key: u64, payload: &[u8]) -> OriginSet
         ensures { result ≡ origins_at self.now key payload.now }
     {
         match self.by_key.get(&key) {
             Some(payloads) => origins_in(payloads, payload),
-            None => SenderSet::from_mask(0),
+            None => OriginSet::empty(),
         }
     }
 
@@ -64,7 +65,7 @@ impl Waiting {
         alloc: Global,
         key: u64,
         payload: &[u8],
-        origins: SenderSet,
+        origins: OriginSet,
     ) -> Result<(), Mem>
         ensures ok { OnOk result ((k : ℕ) (v : List ℕ) → origins_at self.new k v ≡ (if key == k && bytes_eq payload.now v then origins else origins_at self.old k v)) }
         ensures err { OnErr result ((k : ℕ) (v : List ℕ) → origins_at self.new k v ≡ origins_at self.old k v) }

@@ -13,8 +13,13 @@ use Rattle.ritas_base.specs.Slots.{within}
 use Rattle.ooc_buffers.specs.Lists.{HeldItem, held_bytes}
 use Rattle.ritas_core.specs.declared.kernel.Core.{Core}
 use Rattle.ritas_core.specs.declared.cast.Cast.{Cast}
+use Rattle.ritas_core.specs.declared.cast.Cast.TheVariants.{Plain, Digest, Other}
+use Rattle.ritas_core.specs.declared.route.Route.{Route}
 use Rattle.ritas_core.specs.Rules.{Rules, route_of, place_at}
-use Rattle.ritas_core.specs.SlotCast.{shown_by_cast}
+use Rattle.ritas_base.specs.Messages.{Place}
+use Rattle.ritas_base.specs.History.{Call}
+use Rattle.ritas_base.specs.Tags.{Tags}
+use Rattle.ritas_core.specs.SlotCast.{CastStands, shown_by_cast, route_of_cast}
 use Rattle.ritas_core.specs.Casts.{shown_out}
 use Rattle.ritas_core.specs.Parts.{Entry, parts}
 use Rattle.ritas_core.specs.Machine.{CoreState, with_entry, with_lost}
@@ -123,16 +128,30 @@ module _ {S E C T : Type 0} (m : Meaning S E C T) (well : MeansWell m) (core : C
       (shows_at m.cast_stands m.cast well.live m.cast_shown well.cast_shows (route_of layers.mode s) b (place_at r.casts s) r.casts.tags ((parts r st.history).calls s)
       ((stands.layers live).casts.made s b found)).out
 
-  some_by : (o : Option (Cast E)) (d : Option (List ℕ)) → ((b : Cast E) → o ≡ Some b → (shown_by_cast m.cast_shown b).out ≡ d) →
-      IfSome o (λ b. (shown_by_cast m.cast_shown b).out ≡ d)
-  some_by None d is = tt
-  some_by (Some b) d is = is b refl
+  some_by : (P : Cast E → Type 0) (o : Option (Cast E)) → ((b : Cast E) → o ≡ Some b → P b) → IfSome o P
+  some_by P None is = tt
+  some_by P (Some b) is = is b refl
 
   pub delivers_there : (r : Rules) → CoreStands m core r st → st.live ≡ true →
       IfSome (get core.layers.casts s) (λ b. (shown_by_cast m.cast_shown b).out ≡ delivered_at r st.history s)
   delivers_there r stands live =
       subst (λ (q : Rules). CoreStands m core q st → IfSome (get core.layers.casts s) (λ b. (shown_by_cast m.cast_shown b).out ≡ delivered_at q st.history s)) stands.rules
-      (λ here. some_by (get core.layers.casts s) _ (delivers_here here live)) stands
+      (λ here. some_by (λ b. (shown_by_cast m.cast_shown b).out ≡ delivered_at (rules_of m core.layers) st.history s) (get core.layers.casts s)
+      (delivers_here here live)) stands
+
+  -- and it goes as the mode says
+  goes_by : (route : Route) (b : Cast E) (at : Place) (tags : Tags) (h : List Call) → CastStands route m.cast_stands b at tags h → route_of_cast b ≡ route
+  goes_by route (Plain b) at tags h by = sym by.0
+  goes_by route (Digest b) at tags h by = sym by.0
+  goes_by route (Other e) at tags h by = sym by.0
+
+  pub goes_there : (r : Rules) → CoreStands m core r st → st.live ≡ true → IfSome (get core.layers.casts s) (λ b. route_of_cast b ≡ route_of r.mode s)
+  goes_there r stands live =
+      let c = rules_of m core.layers in
+      subst (λ (q : Rules). IfSome (get core.layers.casts s) (λ b. route_of_cast b ≡ route_of q.mode s)) stands.rules
+      (some_by (λ b. route_of_cast b ≡ route_of core.layers.mode s) (get core.layers.casts s)
+      (λ b found. goes_by (route_of core.layers.mode s) b (place_at c.casts s) c.casts.tags ((parts r st.history).calls s)
+      ((stands.layers live).casts.made s b found)))
 
 -- the bytes of all peers
 pub bytes_all : {S E C T : Type 0} (m : Meaning S E C T) (core : Core S E C T) (n : ℕ) → core.layers.params.n ≡ n →

@@ -35,3 +35,9 @@ abbrev pub shown_by_cast : {E : Type 0} → (E → CastShown) → Cast E → Cas
 shown_by_cast shown (Plain b) = record { out = b.delivered; ready = λ i. true }
 shown_by_cast shown (Digest b) = digest_shown b
 shown_by_cast shown (Other e) = shown e
+
+-- by which broadcast a value goes
+abbrev pub route_of_cast : {E : Type 0} → Cast E → Route
+route_of_cast (Plain b) = routes.Values
+route_of_cast (Digest b) = routes.Digests
+route_of_cast (Other e) = routes.Other

@@ -13,12 +13,12 @@ impl<S: Service, E: Broadcast, C: Coin + Drop, T: Tagger + Drop> Core<S, E, C, T
     ghost use Rattle.ritas_base.specs.declared.slot.Slot.{Slot};
     ghost use Rattle.layer_api.specs.ServiceCalls.{ShowsBetween};
     ghost use Rattle.ooc_buffers.specs.Lists.{held_bytes};
-    ghost use Rattle.ritas_core.specs.Rules.{Rules, seat_of};
+    ghost use Rattle.ritas_core.specs.Rules.{Rules, seat_of, route_of};
     ghost use Rattle.ritas_core.specs.Parts.{parts};
     ghost use Rattle.ritas_core.specs.Machine.{CoreState, with_lost};
     ghost use Rattle.ritas_core.specs.Stands.{meaning, CoreStands};
     ghost use Rattle.ritas_core.specs.Shown.{params_of, mode_of, me_of, tagger_of, first_waiting, all_bytes, delivered_at, shown_at, keeps_broadcast};
-    ghost use Rattle.ritas_core.specs.SlotCast.{shown_by_cast};
+    ghost use Rattle.ritas_core.specs.SlotCast.{shown_by_cast, route_of_cast};
 
     /// The numbers of the session.
     pub fn params(&self) -> &Params
@@ -129,6 +129,9 @@ impl<S: Service, E: Broadcast, C: Coin + Drop, T: Tagger + Drop> Core<S, E, C, T
 
     /// The broadcasts, by their slots. While the core isn't stopped, exactly those slots have one that aren't past and at which the
     /// core took an item or started a broadcast, and each has delivered what its slot has.
+    ///
+    /// Those of class 4, and in root service 2 those of class 1, are `Other`. The others are `Plain` in version 1 of frames, and
+    /// `Digest` in version 2.
     pub fn broadcasts(&self) -> &Tree<Cast<E>>
         ensures kept { let m = meaning S.stands S.rules S.shown E.stands E.rules E.shown C.bits T.me T.tags in
             (r : Rules) (st : CoreState) → CoreStands m self.now r st → st.live ≡ true → (s : Slot)
@@ -136,6 +139,9 @@ impl<S: Service, E: Broadcast, C: Coin + Drop, T: Tagger + Drop> Core<S, E, C, T
         ensures delivered { let m = meaning S.stands S.rules S.shown E.stands E.rules E.shown C.bits T.me T.tags in
             (r : Rules) (st : CoreState) → CoreStands m self.now r st → st.live ≡ true → (s : Slot)
             → IfSome (get result.now s) (λ b. (shown_by_cast E.shown b).out ≡ delivered_at r st.history s) }
+        ensures route { let m = meaning S.stands S.rules S.shown E.stands E.rules E.shown C.bits T.me T.tags in
+            (r : Rules) (st : CoreState) → CoreStands m self.now r st → st.live ≡ true → (s : Slot)
+            → IfSome (get result.now s) (λ b. route_of_cast b ≡ route_of r.mode s) }
     {
         &self.layers.casts
     }

@@ -16,7 +16,7 @@ use Rattle.layer_api.specs.Service.{AreHeard, AreProper, AreDistinct, MayHear, M
 use Rattle.layer_api.specs.Words.{Word, is_heard, value_at}
 use Rattle.layer_api.specs.FedLaws.{heard_met}
 use Rattle.layer_api.specs.PartLaws.{heard_is}
-use Rattle.command_log.specs.Rows.{Row, row_of, is_same_command, is_origin, entries_of_log, IsIn, HasRow}
+use Rattle.command_log.specs.Rows.{Row, row_of, is_same_command, is_origin, count_origins, entries_of_log, IsIn, HasRow}
 use Rattle.command_log.specs.Laws.{command_part, row_is, row_confirmed, one_from, IsOriginOf, origin_is}
 use Rattle.ritas_core.specs.Rules.{seat_of}
 use Rattle.ritas_core.specs.HeardLaws.{heard_delivered}
@@ -69,8 +69,9 @@ count_from p n (suc more) none (suc m) is =
     ∙ (sum_by_push (λ k. cond {A = ℕ} (p k) 1 0) (range_with_len 0 m) m
     ∙ (ap (λ (b : Bool). count_by p (replicas m) + cond {A = ℕ} b 1 0) (none m (omega (arith, is))) ∙ omega (arith, rest)))
 
-count_all : (p : ℕ → Bool) (n : ℕ) → n ≤ 31 → ((k : ℕ) → n ≤ k → p k ≡ false) → count_by p (replicas 32) ≡ count_by p (replicas n)
-count_all p n few none = count_from p n (32 - n) none 32 (omega (arith, few))
+count_all : (p : ℕ → Bool) (n : ℕ) → n ≤ 31 → ((k : ℕ) → n ≤ k → p k ≡ false) → count_origins p ≡ count_by p (replicas n)
+unfolding count_origins
+count_all p n few none = count_from p n (256 - n) none 256 (omega (arith, few))
 
 module _ (w : Setting) (es : List Event) (sound : IsSoundOver w) (holds : audit_of w es ≡ Holds) (values : OneValueEach w es) where
   proper : (i : ℕ) → w.is_correct i ≡ true → AreProper w.service (seat_of (rules_at w i)) (words_of w es i)

@@ -1,12 +1,10 @@
-use Rattle.std.proofs.Common.{rules, ◌≡◌, ◌<◌, ◌≤◌, ◌∙◌, sym, ap, subst, ℕ, true, false, List, ◌∷◌, length, drop, inl, inr, refl, ◌⊎◌}
+use Rattle.std.proofs.Common.{rules, arith, ◌≡◌, ◌∙◌, sym, ap, subst, true, false, refl}
 use Rattle.std.specs.Option.{is_some}
-use Rattle.ritas_base.specs.Members.{has_member, member_count}
-use Rattle.command_log.specs.Rows.{CommandEntry, Row, row_of, client_of, request_of}
-use Rattle.command_log.specs.Standing.{Ledger, StandsFor}
+use Rattle.command_log.specs.Rows.{CommandEntry, Row, row_of}
+use Rattle.command_log.specs.Standing.{Ledger}
 use Rattle.command_log.proofs.Places.{found_has, row_from, on_err}
-use Rattle.command_log.proofs.Confirming.{Found, Joined, Settles, found_from, knows, is_first, answer_none, nothing_again, stays_again, settled_position, settled_ok, settled_err}
+use Rattle.command_log.proofs.Confirming.{Found, Settles, found_from, knows, is_first, answer_none, nothing_again, stays_again, settled_position, settled_ok, settled_err}
 use Rattle.command_log.proofs.log.Log.append.Goals as goal
-use Rattle.command_log.proofs.log.Log.append.Goals.{then-id-ge32-via-then-id-ge32, then-id-ge32-via-else-id-ge32+then-has}
 
 -- ---- they have a row
 
@@ -23,9 +21,9 @@ returns-then-is_some-clause-ok c = λ es stands.
     let has = found_has _ _ _ _ _ _ true c.number-client.ensures c.number-request.ensures c.find.ensures.value some in
     stays_again c.args.self.now (record { id = c.args.id; command = c.args.command.now }) es has stands
 
--- ---- its origin was one already, or is no replica's
+-- ---- its origin was one already
 
-known_in : (c : goal.Joined-then-id-ge32) → Found c.args.self.now (record { id = c.args.id; command = c.args.command.now }) c.origins-origins.result
+known_in : (c : goal.Then-has) → Found c.args.self.now (record { id = c.args.id; command = c.args.command.now }) c.origins-origins.result
 known_in c =
     let none : is_some c.find.result ≡ false = search rules in
     found_from c.args.self.now (record { id = c.args.id; command = c.args.command.now }) c.number-client.result c.number-request.result c.key_of.result
@@ -33,20 +31,13 @@ known_in c =
     c.key_of.ensures c.payload_of-payload.ensures c.origins-origins.ensures (ap (λ (l : Ledger). l.waiting) c.self.view_is)
     (found_has _ _ _ _ _ _ false c.number-client.ensures c.number-request.ensures c.find.ensures.value none)
 
-known_by : (c : goal.Joined-then-id-ge32) → (32 ≤ c.args.id.origin) ⊎ ((c.args.id.origin < 32) × (has_member c.origins-origins.result c.args.id.origin ≡ true))
-known_by c =
-    elim c.then-id-ge32.branch [
-      | then-id-ge32-via-then-id-ge32 w ↦ inl w.if-id-ge32.true
-      | then-id-ge32-via-else-id-ge32+then-has w ↦ inr (w.if-id-ge32.false, sym w.has.ensures ∙ w.if-has.true)
-    ]
+pub returns-then-has-clause-position : goal.returns-then-has-clause-position
+returns-then-has-clause-position c = λ es stands.
+    (knows c.args.self.now (record { id = c.args.id; command = c.args.command.now }) es c.origins-origins.result (known_in c) (omega arith) (sym c.has.ensures ∙ c.if-has.true) stands).0
 
-pub returns-then-id-ge32-clause-position : goal.returns-then-id-ge32-clause-position
-returns-then-id-ge32-clause-position c = λ es stands.
-    (knows c.args.self.now (record { id = c.args.id; command = c.args.command.now }) es c.origins-origins.result (known_in c) (known_by c) stands).0
-
-pub returns-then-id-ge32-clause-ok : goal.returns-then-id-ge32-clause-ok
-returns-then-id-ge32-clause-ok c = λ es stands.
-    (knows c.args.self.now (record { id = c.args.id; command = c.args.command.now }) es c.origins-origins.result (known_in c) (known_by c) stands).1
+pub returns-then-has-clause-ok : goal.returns-then-has-clause-ok
+returns-then-has-clause-ok c = λ es stands.
+    (knows c.args.self.now (record { id = c.args.id; command = c.args.command.now }) es c.origins-origins.result (known_in c) (omega arith) (sym c.has.ensures ∙ c.if-has.true) stands).1
 
 -- ---- it is a new one
 
@@ -88,4 +79,4 @@ returns-clause-only c = on_err c.settle.result (found_in c).none
 pub returns-clause-first : goal.returns-clause-first
 returns-clause-first c = λ es stands.
     on_err c.settle.result
-    (is_first c.args.self.now _ es c.origins-origins.result (found_in c) c.if-id-ge32.false (sym c.has.ensures ∙ c.if-has.false) stands)
+    (is_first c.args.self.now _ es c.origins-origins.result (found_in c) (omega arith) (sym c.has.ensures ∙ c.if-has.false) stands)

@@ -1,19 +1,38 @@
-use Rattle.std.proofs.Common.{◌≡◌, ◌++◌, List, map, Some, ap, ◌∙◌}
-use Rattle.std.proofs.lemmas.List.{map-append}
-use Rattle.replica.specs.Out.{OutFrame}
-use Rattle.node_loop.specs.Serving.{sent_by}
-use Rattle.node_loop.specs.Standing.{frame_by}
-use Rattle.node_loop.proofs.house.House.give.Goals as goal
+use Rattle.std.proofs.Common.{ap, sym, ◌∙◌}
+use Rattle.replica.specs.Handling.{Frame, Input, Turn}
+use Rattle.node_loop.proofs.Alone.{call_in}
+use Rattle.node_loop.proofs.Heres.{gave, answers}
+use Rattle.node_loop.proofs.house.House.call_replica.Goals as goal
+use Rattle.node_loop.proofs.house.House.call_replica.Goals.{in-Frame, in-Input, in-Turn}
 
 pub returns-clause-does : goal.returns-clause-does
-returns-clause-does g c = λ w es numbers at stand number alone.
-    let old = c.args.frames.now.items in
-    let made = c.call_replica.new.frames.items in
-    let sent = sent_by w es (Some c.args.event.now) in
-    let did = c.in_ok-answer.ensures.does w es numbers at stand number alone in
-    let made_is : map (frame_by at) made ≡ sent = did.1 ∙ ap (λ (l : List OutFrame). map (frame_by at) l ++ sent) c.new-made.ensures.items in (
-      did.0,
-      ap (map (frame_by at)) (c.in_ok-seal_each.ensures ∙ ap (λ (l : List OutFrame). old ++ l) c.as_slice.ensures.value)
-          ∙ map-append (frame_by at) old made
-          ∙ ap (λ l. map (frame_by at) old ++ l) made_is,
-    )
+returns-clause-does g c = λ w es numbers at stand number alone. elim c.match-event.branch [
+  | in-Frame b ↦
+      gave _ w es numbers c.args.self.now.replicas.items c.match-event.self.replicas.items c.args.place at c.in-Some.replica.now b.on_frame-answer.new.self c.args.event.now (Frame b.as_slice.result.now)
+      c.args.frames.now.items b.on_frame-answer.new.out.items c.match-event.frames.items b.on_frame-answer.result c.match-event.answer c.told.result
+      stand number c.in-Some.ensures.item.3.0 c.in-Some.ensures.value alone (ap (λ x. Frame x) b.as_slice.ensures ∙ sym (ap call_in b.in-Frame.is)) b.on_frame-answer.ensures.does c.told.ensures.tells b.answer-is (ap (λ h. h.replicas.items) b.self-is) (ap (λ v. v.items) b.frames-is)
+  | in-Input b ↦
+      gave _ w es numbers c.args.self.now.replicas.items c.match-event.self.replicas.items c.args.place at c.in-Some.replica.now b.on_input-answer.new.self c.args.event.now (Input b.as_slice-in-Input.result.now)
+      c.args.frames.now.items b.on_input-answer.new.out.items c.match-event.frames.items b.on_input-answer.result c.match-event.answer c.told.result
+      stand number c.in-Some.ensures.item.3.0 c.in-Some.ensures.value alone (ap (λ x. Input x) b.as_slice-in-Input.ensures ∙ sym (ap call_in b.in-Input.is)) b.on_input-answer.ensures c.told.ensures.tells b.answer-is (ap (λ h. h.replicas.items) b.self-is) (ap (λ v. v.items) b.frames-is)
+  | in-Turn b ↦
+      gave _ w es numbers c.args.self.now.replicas.items c.match-event.self.replicas.items c.args.place at c.in-Some.replica.now b.on_turn-answer.new.self c.args.event.now Turn
+      c.args.frames.now.items b.on_turn-answer.new.out.items c.match-event.frames.items b.on_turn-answer.result c.match-event.answer c.told.result
+      stand number c.in-Some.ensures.item.3.0 c.in-Some.ensures.value alone (sym (ap call_in b.in-Turn.is)) b.on_turn-answer.ensures c.told.ensures.tells b.answer-is (ap (λ h. h.replicas.items) b.self-is) (ap (λ v. v.items) b.frames-is)
+]
+
+pub returns-clause-answered : goal.returns-clause-answered
+returns-clause-answered g c = λ w es numbers at stand number alone. elim c.match-event.branch [
+  | in-Frame b ↦
+      answers _ w es numbers c.args.self.now.replicas.items c.args.place at c.in-Some.replica.now b.on_frame-answer.new.self c.args.event.now (Frame b.as_slice.result.now)
+      c.args.frames.now.items b.on_frame-answer.new.out.items b.on_frame-answer.result c.match-event.answer c.told.result
+      stand number c.in-Some.ensures.item.3.0 c.in-Some.ensures.value alone (ap (λ x. Frame x) b.as_slice.ensures ∙ sym (ap call_in b.in-Frame.is)) b.on_frame-answer.ensures.does c.told.ensures.tells b.answer-is
+  | in-Input b ↦
+      answers _ w es numbers c.args.self.now.replicas.items c.args.place at c.in-Some.replica.now b.on_input-answer.new.self c.args.event.now (Input b.as_slice-in-Input.result.now)
+      c.args.frames.now.items b.on_input-answer.new.out.items b.on_input-answer.result c.match-event.answer c.told.result
+      stand number c.in-Some.ensures.item.3.0 c.in-Some.ensures.value alone (ap (λ x. Input x) b.as_slice-in-Input.ensures ∙ sym (ap call_in b.in-Input.is)) b.on_input-answer.ensures c.told.ensures.tells b.answer-is
+  | in-Turn b ↦
+      answers _ w es numbers c.args.self.now.replicas.items c.args.place at c.in-Some.replica.now b.on_turn-answer.new.self c.args.event.now Turn
+      c.args.frames.now.items b.on_turn-answer.new.out.items b.on_turn-answer.result c.match-event.answer c.told.result
+      stand number c.in-Some.ensures.item.3.0 c.in-Some.ensures.value alone (sym (ap call_in b.in-Turn.is)) b.on_turn-answer.ensures c.told.ensures.tells b.answer-is
+]
