@@ -3,9 +3,7 @@ use Rattle.std.specs.Prelude.{◌≡◌, ℕ, ◌+◌, ◌-◌, ◌<◌, ◌≤�
 use Rattle.std.proofs.Common.{sym, subst, arith}
 use Rattle.std.proofs.lemmas.Bool.{le-leb, lt-leb, cond-true, cond-false}
 use Rattle.link_resume.specs.declared.kept.Kept.{Kept}
-use Rattle.link_resume.specs.Lanes.{IsPeerLane}
 use Rattle.link_resume.specs.Lists.{bytes_in, most_kept_bytes, room_for}
-use Rattle.link_resume.proofs.Places.{lane_less}
 
 -- where there is room all stay
 pub all_fit : (size : ℕ) (xs : List Kept) → bytes_in xs + size ≤ most_kept_bytes → room_for size xs ≡ xs
@@ -20,8 +18,3 @@ first_goes size x xs full =
 
 pub oldest_goes : (size : ℕ) (x : Kept) (xs all : List Kept) → all ≡ x ∷ xs → most_kept_bytes < bytes_in all + size → room_for size xs ≡ room_for size all
 oldest_goes size x xs all is full = rw is (sym (first_goes size x xs (subst (λ (l : List Kept). most_kept_bytes < bytes_in l + size) is full)))
-
--- what is known of the others then
-pub lane_newer : (bytes : ℕ) (x : Kept) (ascends : Bool) (xs all : List Kept) → IsPeerLane bytes ascends all → all ≡ x ∷ xs
-    → IsPeerLane (bytes - length x.frame) ascends xs
-lane_newer bytes x ascends xs all lane is = lane_less bytes 0 x ascends (x ∷ xs) (subst (λ (l : List Kept). IsPeerLane bytes ascends l) is lane) (omega arith) refl

@@ -1,6 +1,5 @@
 -- Frames that are kept: one list for each peer, each in the order in which its frames were kept.
-use Rattle.std.specs.Prelude.{ℕ, ◌+◌, ◌==◌, ◌<◌, ◌≤◌, nat_le, not, List, [], ◌∷◌, ◌++◌, filter, slice_index_or, slice_set, length, sum_by, if◌then◌else◌}
-use Rattle.std.specs.List.{AllPairs, AllWithin}
+use Rattle.std.specs.Prelude.{ℕ, ◌+◌, ◌==◌, nat_le, not, List, [], ◌∷◌, ◌++◌, filter, slice_index_or, slice_set, length, sum_by, if◌then◌else◌}
 use Rattle.link_resume.specs.declared.kept.Kept.{Kept}
 
 -- what is kept for a peer
@@ -35,12 +34,3 @@ room_for size (k ∷ ks) = if nat_le (bytes_in (k ∷ ks) + size) most_kept_byte
 -- so it is of what is kept for a peer
 abbrev pub with_room : List (List Kept) → ℕ → ℕ → List (List Kept)
 with_room lists peer size = slice_set lists peer (room_for size (kept_for lists peer))
-
--- each has a greater number than those before it
-abbrev pub Ascend : List Kept → Type 0
-Ascend kept = AllPairs (λ a b. a.seq < b.seq) kept
-
--- the frames before a place have lesser numbers, and those from it on haven't
-pub record IsPlace (seq at : ℕ) (kept : List Kept) : Type 0 where
-  pub before : AllWithin (λ k. k.seq < seq) kept 0 at
-  pub behind : AllWithin (λ k. seq ≤ k.seq) kept at (length kept)

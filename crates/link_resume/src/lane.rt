@@ -1,14 +1,16 @@
 //! The frames that are kept for one peer, the oldest first, within the limit of their bytes.
 
-ghost use Rattle.std.specs.Prelude.{◌≡◌, ℕ, ◌+◌, ◌-◌, ◌^◌, ◌<◌, ◌≤◌, ◌↔◌, [], ◌∷◌, ◌++◌, length, slice_index_or, Err, Some, OnOk, OnErr, MatchOption, true};
+ghost use Rattle.std.specs.Prelude.{◌≡◌, ℕ, ◌+◌, ◌-◌, ◌^◌, ◌<◌, ◌≤◌, ◌↔◌, [], ◌∷◌, ◌++◌, length, All, filter, not, ◌==◌, Err, Some, IfSome, OnOk, OnErr, MatchOption, true};
+ghost use Rattle.std.specs.BTreeMap.{keys, values};
 ghost use Rattle.std.specs.List.{slice_get};
 ghost use Rattle.link_resume.specs.declared.kept.Kept.{Kept};
-ghost use Rattle.link_resume.specs.Lists.{bytes_in, most_kept_bytes, all_but, room_for, Ascend, IsPlace};
+ghost use Rattle.link_resume.specs.Lists.{bytes_in, most_kept_bytes, all_but, room_for};
 
+use crate::frames::Frames;
 use crate::kept::{KeepFault, Kept};
 use ritas_base::Bytes;
 use std::alloc::Global;
-use std::collections::VecDeque;
+use std::collections::BTreeMap;
 use std::marker::Model;
 
 /// The most bytes that are kept for one peer.
@@ -17,60 +19,53 @@ const MOST_BYTES: u64 = 8_388_608;
 /// The frames that are kept for one peer, the oldest first.
 #[derive(Drop)]
 pub(crate) struct Lane {
-    kept: VecDeque<Kept>,
+    // By a place each. The places ascend in the order in which the frames were kept.
+    kept: BTreeMap<u128, Kept>,
     // How many bytes the frames have.
     bytes: u64,
-    // Whether it is known that their numbers ascend.
-    ascends: bool,
+    // Whether it is known that the place of each is its number.
+    by_number: bool,
 }
 
 impl Model for Lane {
     ghost use Rattle.std.specs.Prelude.{List};
+    ghost use Rattle.std.specs.BTreeMap.{values};
     ghost use Rattle.link_resume.specs.declared.kept.Kept.{Kept};
     ghost use Rattle.link_resume.specs.Lanes.{IsPeerLane};
 
     ghost Value = { List Kept };
 
-    ghost view = { λ l. l.kept.items };
+    ghost view = { λ l. values l.kept };
 
-    ghost invariant = { λ l. IsPeerLane l.bytes l.ascends l.kept.items };
+    ghost invariant = { λ l. IsPeerLane l.bytes l.by_number l.kept.entries };
 }
 
 // How many bytes these frames have, which are at most as many as may be kept.
-fn bytes_in(kept: &VecDeque<Kept>) -> u64
-    requires { bytes_in kept.now.items < 2 ^ 64 }
-    ensures { result ≡ bytes_in kept.now.items }
+fn bytes_in(kept: &BTreeMap<u128, Kept>) -> u64
+    requires { bytes_in (values kept.now) < 2 ^ 64 }
+    ensures { result ≡ bytes_in (values kept.now) }
 {
-    kept.iter()
+    kept.values()
         .map(|frame| frame.frame.as_slice().len() as u64)
         .sum()
 }
 
-// The frames with another number, where nothing is known of the order.
-fn retain_others(kept: &mut VecDeque<Kept>, seq: u64)
-    ensures { kept.new.items ≡ all_but seq kept.old.items }
+// The frames with another number, where nothing is known of their places.
+fn retain_others(kept: &mut BTreeMap<u128, Kept>, seq: u64)
+    ensures { kept.new.entries ≡ filter (λ e. not (e.1.seq == seq)) kept.old.entries }
 {
-    kept.retain(move |frame| frame.seq != seq);
+    kept.retain(move |_, frame| frame.seq != seq);
 }
 
-// How many frames stand before the place of a number.
-fn place_of(kept: &VecDeque<Kept>, seq: u64) -> usize
-    ensures bound { result ≤ length kept.now.items }
-    ensures place { Ascend kept.now.items → IsPlace seq result kept.now.items }
+// The place of a frame behind the others: its number, where this is greater than their places. None is left behind the greatest.
+fn place_behind(kept: &BTreeMap<u128, Kept>, number: u128) -> Option<u128>
+    ensures { IfSome result (λ place. All (λ other. other < place) (keys kept.now)) }
 {
-    kept.partition_point(move |frame| frame.seq < seq)
-}
-
-// Whether numbers that ascend still do with this one behind them.
-fn still_ascends(ascends: bool, kept: &VecDeque<Kept>, seq: u64) -> bool
-    ensures ascends { result ≡ true → ascends ≡ true }
-    ensures greater { result ≡ true → (d : Kept) → 0 < length kept.now.items → (slice_index_or kept.now.items (length kept.now.items - 1) d).seq < seq }
-{
-    ascends
-        && match kept.back() {
-            Some(newest) => newest.seq < seq,
-            None => true,
-        }
+    match kept.last_key_value() {
+        Some((last, _)) if number <= *last => last.checked_add(1),
+        Some(_) => Some(number),
+        None => Some(number),
+    }
 }
 
 impl Lane {
@@ -79,9 +74,9 @@ impl Lane {
         ensures { result ≡ [] }
     {
         Lane {
-            kept: VecDeque::new(alloc),
+            kept: BTreeMap::new(alloc),
             bytes: 0,
-            ascends: true,
+            by_number: true,
         }
     }
 
@@ -100,11 +95,18 @@ impl Lane {
         self.kept.len()
     }
 
-    /// The frame at a place.
+    /// The frame that so many stand before.
     pub(crate) fn at(&self, at: usize) -> Option<&Kept>
         ensures { MatchOption result (length self.now ≤ at) (λ k. slice_get self.now at ≡ Some k.now) }
     {
-        self.kept.get(at)
+        self.kept.values().nth(at)
+    }
+
+    /// All that are kept, the oldest first.
+    pub(crate) fn frames(&self) -> Frames<'_>
+        ensures { result ≡ self.now }
+    {
+        Frames::new(self.kept.values())
     }
 
     /// Keeps a copy of the frame behind the others.
@@ -117,37 +119,30 @@ impl Lane {
         if len > MOST_BYTES - self.bytes {
             return Err(KeepFault::QueueFull(self.bytes));
         }
-        self.kept.reserve(1)?;
-        let copy = Bytes::from_slice(alloc, frame)?;
-        let ascends = still_ascends(self.ascends, &self.kept, seq);
-        self.kept.push_back_reserved(Kept { seq, frame: copy });
-        self.bytes += len;
-        self.ascends = ascends;
-        Ok(())
-    }
-
-    // The frame at the place of a number goes, if it has it.
-    fn remove(&mut self, at: usize, seq: u64)
-        ensures { Ascend self.old → IsPlace seq at self.old → self.new ≡ all_but seq self.old }
-    {
-        let Some(kept) = self.at(at) else {
-            return;
+        let number = u128::from(seq);
+        let Some(place) = place_behind(&self.kept, number) else {
+            // More than 2^127 frames would have to come, with some kept all the while.
+            return Err(KeepFault::Mem);
         };
-        if kept.seq != seq {
-            return;
+        let by_number = place == number && (self.by_number || self.kept.is_empty());
+        let copy = Bytes::from_slice(alloc, frame)?;
+        match self.kept.insert(place, Kept { seq, frame: copy }) {
+            Ok(_) => {}
+            Err(_) => return Err(KeepFault::Mem),
         }
-        if let Some(kept) = self.kept.remove(at) {
-            self.bytes -= kept.frame.as_slice().len() as u64;
-        }
+        self.bytes += len;
+        self.by_number = by_number;
+        Ok(())
     }
 
     /// The frames of this number go.
     pub(crate) fn acked(&mut self, seq: u64)
         ensures { self.new ≡ all_but seq self.old }
     {
-        if self.ascends {
-            let at = place_of(&self.kept, seq);
-            self.remove(at, seq);
+        if self.by_number {
+            if let Some(kept) = self.kept.remove(&u128::from(seq)) {
+                self.bytes -= kept.frame.as_slice().len() as u64;
+            }
         } else {
             retain_others(&mut self.kept, seq);
             self.bytes = bytes_in(&self.kept);
@@ -159,10 +154,10 @@ impl Lane {
         ensures { self.new ≡ room_for size self.old }
     {
         while size > MOST_BYTES - self.bytes {
-            let Some(oldest) = self.kept.pop_front() else {
+            let Some(oldest) = self.kept.pop_first() else {
                 return;
             };
-            self.bytes -= oldest.frame.as_slice().len() as u64;
+            self.bytes -= oldest.1.frame.as_slice().len() as u64;
         }
     }
 }

@@ -17,14 +17,16 @@
 //! bytes are kept for one peer, so no peer that doesn't answer takes the room of others. Where more is sent, it isn't kept, or
 //! the peer's oldest frames are dropped first (`make_room`).
 //!
-//! Contracts see `Resume` as one list for each peer, in the order in which its frames were kept (`specs/Lists.antt`). Numbers
-//! may come in any order; where they ascend, as those of a replica's frames do, an acknowledgement is found by halving, and
-//! the shorter side of the list moves: for the oldest frame none does.
+//! Contracts see `Resume` as one list for each peer, in the order in which its frames were kept (`specs/Lists.antt`). They stand in
+//! a tree, by places that ascend. Numbers may come in any order. Where they ascend, as those of a replica's frames do, the place of a
+//! frame is its number: whatever the order of acknowledgements, one takes steps in the logarithm of how many are kept.
 #![tactic(auto)]
 
+mod frames;
 mod kept;
 mod lane;
 mod resume;
 
+pub use frames::Frames;
 pub use kept::{KeepFault, Kept};
 pub use resume::Resume;

@@ -4,6 +4,7 @@ ghost use Rattle.std.specs.Prelude.{◌≡◌, ℕ, ◌+◌, ◌<◌, ◌≤◌,
 ghost use Rattle.std.specs.List.{slice_get};
 ghost use Rattle.link_resume.specs.Lists.{kept_for, bytes_in, most_kept_bytes, with_frame_kept, with_room, without_number};
 
+use crate::frames::Frames;
 use crate::kept::{KeepFault, Kept};
 use crate::lane::Lane;
 use ritas_base::Mem;
@@ -82,12 +83,21 @@ impl Resume {
         self.lanes[peer as usize].count()
     }
 
-    /// What is kept for a peer at a place, the oldest at 0. `None` exactly where there is no such place. It takes no memory.
+    /// What is kept for a peer at a place, the oldest at 0. `None` exactly where there is no such place. It takes no memory, and goes
+    /// through those before it: `frames` goes through all.
     pub fn waiting(&self, peer: u8, at: usize) -> Option<&Kept>
         requires { peer < length self.now }
         ensures { MatchOption result (length (kept_for self.now peer) ≤ at) (λ k. slice_get (kept_for self.now peer) at ≡ Some k.now) }
     {
         self.lanes[peer as usize].at(at)
+    }
+
+    /// All that is kept for a peer, the oldest first. It takes no memory.
+    pub fn frames(&self, peer: u8) -> Frames<'_>
+        requires { peer < length self.now }
+        ensures { result ≡ kept_for self.now peer }
+    {
+        self.lanes[peer as usize].frames()
     }
 
     /// How many bytes the frames have that are kept for a peer, at most 8,388,608. It takes no memory.

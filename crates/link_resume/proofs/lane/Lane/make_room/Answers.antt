@@ -1,14 +1,22 @@
-use Rattle.std.proofs.Common.{◌<◌, ◌+◌, ◌∙◌, arith, ap, sym}
+use Rattle.std.proofs.Common.{◌<◌, ◌+◌, ◌∙◌, arith, ap, sym, subst, ◌≡◌, ℕ, List, ◌∷◌}
+use Rattle.std.specs.BTreeMap.{values}
+use Rattle.std.specs.Map.{values_of}
+use Rattle.link_resume.specs.declared.kept.Kept.{Kept}
+use Rattle.link_resume.specs.Lanes.{IsPeerLane}
 use Rattle.link_resume.specs.Lists.{bytes_in, most_kept_bytes, room_for}
-use Rattle.link_resume.proofs.Room.{all_fit, oldest_goes, lane_newer}
+use Rattle.link_resume.proofs.Places.{lane_newer}
+use Rattle.link_resume.proofs.Room.{all_fit, oldest_goes}
 use Rattle.link_resume.proofs.lane.Lane.make_room.Goals as goal
 
 pub loop-self-preserved : goal.loop-self-preserved
 loop-self-preserved c =
     let lane = c.loop-self.invariant.0 in
-    let full : most_kept_bytes < bytes_in c.loop-self.self-inside.kept.items + c.args.size = omega (arith, lane.count, lane.most, c.loop-self-test.true) in
-    let less = lane_newer _ c.in-Some.oldest _ c.pop_front.new.self.items _ lane c.in-Some.ensures.items in
-    (rw c.as_slice.ensures less, oldest_goes c.args.size c.in-Some.oldest c.pop_front.new.self.items _ c.in-Some.ensures.items full ∙ c.loop-self.invariant.1)
+    let full : most_kept_bytes < bytes_in (values c.loop-self.self-inside.kept) + c.args.size = omega (arith, lane.count, lane.most, c.loop-self-test.true) in
+    let e : ℕ × Kept = c.in-Some.oldest in
+    let is : c.loop-self.self-inside.kept.entries ≡ e ∷ c.pop_first.new.self.entries = c.in-Some.ensures.removal in (
+      rw c.as_slice.ensures (lane_newer c.loop-self.self-inside.bytes e c.loop-self.self-inside.by_number c.pop_first.new.self.entries (subst (λ (es : List (ℕ × Kept)). IsPeerLane c.loop-self.self-inside.bytes c.loop-self.self-inside.by_number es) is lane)),
+      oldest_goes c.args.size e.1 (values c.pop_first.new.self) (values c.loop-self.self-inside.kept) (ap values_of is) full ∙ c.loop-self.invariant.1,
+    )
 
 pub returns : goal.returns
 returns c =
