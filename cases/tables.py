@@ -1,9 +1,19 @@
 """What the scripts of this folder have in common: the program, by way of `serving`, and how they tell what is wrong."""
+import concurrent.futures
 import os
 import sys
 
 sys.path.append(os.path.join(os.path.dirname(os.path.dirname(os.path.abspath(__file__))), "examples"))
 import serving  # noqa: E402
+
+
+def side_by_side(answer, rows):
+    """What this answers for each row, in their order. As many are asked for at a time as there are processors, so nothing here may measure time.
+
+    It is for what starts the program, since threads of Python share one processor.
+    """
+    with concurrent.futures.ThreadPoolExecutor(os.cpu_count()) as workers:
+        yield from workers.map(lambda row: answer(*row), rows)
 
 
 def tell(rows) -> int:

@@ -86,8 +86,8 @@ impl Channel {
         tagged(front, &tag)
     }
 
-    /// The same frame, whose tag is computed once its bytes are asked for. It shares the body. The one error is want of memory, where too
-    /// many share one already.
+    /// The same frame, which shares the body. The code computes no tag here; no clause says so. The one error is want of memory, where too many share
+    /// one already.
     pub fn seal_lazily(&self, to: u8, seq: u64, body: &Rc<Bytes, Global>) -> Result<LazyFrame, Mem>
         requires { to < self.now.n }
         ensures { IfOk result (λ frame. frame ≡ sealed self.now to seq body.now.value) }
@@ -117,7 +117,8 @@ impl Channel {
         Ok(as_opened(bytes))
     }
 
-    // Whether the tag of a frame is right. It is computed only where the frame wasn't made with the key that is shared with its sender.
+    // Whether the tag of a frame is right. The code computes it only where the frame wasn't made with the key that is shared with its sender; no
+    // clause says so.
     fn is_tagged(&self, frame: &LazyFrame) -> bool
         requires { sender_of frame.now < self.now.n }
         ensures { result ≡ is_tagged self.now frame.now }
@@ -126,8 +127,8 @@ impl Channel {
         frame.has_key(key) || frame.tag_under(key) == frame.tag()
     }
 
-    /// Opens a frame that a channel made, as `open` does with its bytes. No tag is computed where that channel shares its key. It takes
-    /// no memory.
+    /// Opens a frame that a channel made, as `open` does with its bytes. It takes no memory. The code computes no tag where that channel shares its
+    /// key; no clause says so.
     pub fn open_lazily<'a>(&self, frame: &'a LazyFrame) -> Result<Opened<'a>, OpenFault>
         ensures { MatchResult result
             (λ o. opening self.now frame.now ≡ Ok (record { from = o.from; seq = o.seq; body = o.body.now }))

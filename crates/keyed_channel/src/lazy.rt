@@ -18,8 +18,8 @@ use std::alloc::Global;
 use std::marker::Model;
 use std::rc::Rc;
 
-/// A frame that a channel made, as `Channel::seal` makes it, but that its tag is computed only once its bytes are asked for. Contracts
-/// see it as these bytes. It shares the body with the other frames that carry it.
+/// A frame that a channel made, as `Channel::seal` makes it. Contracts see it as these bytes, and say nothing of when its tag is computed: the code
+/// does so where its bytes are asked for, and where it is compared or opened without its key. It shares the body with the other frames that carry it.
 #[derive(Drop)]
 pub struct LazyFrame {
     version: FrameVersion,
@@ -123,7 +123,8 @@ impl LazyFrame {
         )
     }
 
-    /// What it says of itself, as `frame_parts` tells of its bytes: it is long enough for that. It takes no memory, and computes no tag.
+    /// What it says of itself, as `frame_parts` tells of its bytes: it is long enough for that. It takes no memory. The code computes no tag here; no
+    /// clause says so.
     pub fn parts(&self) -> FrameParts<'_>
         ensures { (result.from ≡ sender_of self.now) × (result.seq ≡ seq_of self.now) × (result.body.now ≡ frame_body self.now) }
     {
@@ -144,7 +145,7 @@ impl LazyFrame {
             && body == self.body.as_slice()
     }
 
-    /// Whether these are its bytes. It takes no memory, and computes no tag where they differ before it.
+    /// Whether these are its bytes. It takes no memory. The code computes no tag where they differ before it; no clause says so.
     pub fn is(&self, bytes: &[u8]) -> bool
         ensures { result ≡ bytes_eq bytes.now self.now }
     {

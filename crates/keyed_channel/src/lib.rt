@@ -38,8 +38,9 @@
 //! a frame says of itself with no key, and check nothing of it.
 //!
 //! `Channel` seals, opens and tags entries with the same contracts, and hashes the pads of each key once. A `LazyFrame` is a
-//! frame that a channel made, whose tag is computed once its bytes are asked for: in one process it is opened without, by a channel
-//! that shares the key. Nothing is said of how long a call takes, and so nothing of what its time tells about a key.
+//! frame that a channel made. The code computes its tag where its bytes are asked for, and where a channel opens it that doesn't share the
+//! key; a channel in the same process that shares it opens it with no tag. No clause says so: to the contracts it is its bytes. Nothing is said of how
+//! long a call takes, and so nothing of what its time tells about a key.
 #![tactic(auto)]
 
 mod channel;

@@ -14,8 +14,13 @@ use std::rt::Files;
 ///
 /// The first call opens the file, or makes it, readable and writable by its owner alone. It locks it, so that it fails where
 /// another has the file open as a disk, and syncs the folder, so that a file that was made stays. A sync is one of the file's
-/// data and length (`fdatasync`). After one that failed, what a read gives needn't be on the disk, though a later sync
-/// answers Ok: the file is then to be opened anew by a program that is started anew.
+/// data and length (`fdatasync`).
+///
+/// After a sync that failed, what a read gives needn't be on the device, though a later sync answers Ok: Linux marks the pages of a failed sync as
+/// clean. A program that is started anew reads the same pages. So the page cache is to be dropped before the file is opened again, by a restart of the
+/// machine, or where its file system is unmounted and mounted again.
+///
+/// That the system's calls do what they say is trusted: no contract can name what the file holds.
 #[derive(Drop)]
 pub struct FileDisk<R: Files<File = File>> {
     rt: R,

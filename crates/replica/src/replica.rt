@@ -187,8 +187,8 @@ impl<S: Service, E: Broadcast, C: Coin + Drop> Replica<S, E, C> {
         }
     }
 
-    /// Takes a frame that a channel made, and does all that `on_frame` does with its bytes. No tag is computed where that channel shares
-    /// its key with this replica.
+    /// Takes a frame that a channel made, and does all that `on_frame` does with its bytes. The code computes no tag where that channel shares its key
+    /// with this replica; no clause says so.
     pub fn on_lazy_frame(
         &mut self,
         alloc: Global,
