@@ -15,6 +15,7 @@ use Rattle.world_model.specs.OneValueEach.{history_of}
 use Rattle.world_model.specs.Agree.{identifier_log, command_delivered, OneIsPart, Agree, AgreeLaw}
 use Rattle.world_model.proofs.Law.{audit_parts, enough_of, law_of}
 use Rattle.world_model.proofs.Said.{asked_given}
+use Rattle.world_model.proofs.Proposed.{decisions_proposed, entries_of_last, ids_appended}
 use Rattle.world_model.proofs.Logged.{ids_distinct, rows_one, row_submitted, row_confirmed_at}
 use Rattle.world_model.proofs.WordRuns.{WordsAt, session_of, words_after}
 use Rattle.world_model.specs.CoreLaws.{CoreLaws}
@@ -37,6 +38,7 @@ agree_of w es sound one holds =
     let run : IsRunOf (session_of w) x.steps = record { enough = enough_of w sound audit.0; serves = sound.world.serves; fed = x.fed } in
     let values = law_of w es sound holds in
     let ids = ids_one w es one x run in
+    let proposed = decisions_proposed w es sound audit.1 values one x run in
     record {
       logs = λ i j left right. rows_one w es sound holds values i j left right (ids i j left right);
       once = λ i. rows_once w.numbers.f (entries_of_log (command_delivered w es i) (identifier_log w es i));
@@ -70,6 +72,14 @@ agree_of w es sound one holds =
       last_vectors = λ i j u v left right last_i last_j same.
           one.last_vectors w.numbers w.mode w.is_correct w.coin x.steps run i j u v left right
           (ap (w.service.last (seat_of (rules_at w i))) (x.same i left) ∙ last_i) (ap (w.service.last (seat_of (rules_at w j))) (x.same j right) ∙ last_j) same;
+      proposed = proposed;
+      entries = λ five i k v e left right out entry.
+          asked_given (rules_at w k) (history_of w es k) e
+          (subst (λ (ws : List Word). Has ws (Ask e)) (x.same k right)
+          (one.entries w.numbers w.mode w.is_correct w.coin x.steps run five i k v e left right
+          (ap (w.service.outcome (seat_of (rules_at w i))) (x.same i left) ∙ out) entry));
+      last_entries = entries_of_last w es sound audit.1 values one x run;
+      appended = ids_appended w es sound audit.1 values one x run;
     }
 
 -- and of every world

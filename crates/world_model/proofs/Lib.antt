@@ -21,6 +21,7 @@ pub mod Said
 pub mod WordRuns
 pub mod Logged
 pub mod Agreed
+pub mod Proposed
 pub mod Positions
 pub mod Apart
 pub mod Stopped
