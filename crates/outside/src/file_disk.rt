@@ -14,8 +14,12 @@ use std::rt::Files;
 ///
 /// The first call opens the file, or makes it, readable and writable by its owner alone. It locks it, so that it fails where
 /// another has the file open as a disk, and syncs the folder, so that a file that was made stays. A sync is one of the file's
-/// data and length (`fdatasync`). After one that failed, what a read gives needn't be on the disk, though a later sync
-/// answers Ok: the file is then to be opened anew by a program that is started anew.
+/// data and length (`fdatasync`).
+///
+/// After a sync that failed, what a read gives needn't be on the disk, though a later sync answers Ok. On Linux the pages that
+/// couldn't be written are then marked as written: they stay in the system's cache, so also a program that is started anew reads
+/// them, and its sync has nothing to do. So the cache has to go before the file is opened again: the machine is restarted, or the file
+/// system is unmounted and mounted again. Then a read gives what the device has, which is an image of the file.
 #[derive(Drop)]
 pub struct FileDisk<R: Files<File = File>> {
     rt: R,
