@@ -2,7 +2,7 @@
 
 ghost use Rattle.std.specs.Prelude.{◌≡◌, ◌<◌, ◌≤◌, ◌+◌, ◌-◌, ◌++◌, ◌∷◌, ◌^◌, ◌↔◌, ◌⊎◌, [], ℕ, List, true, false, length, min, reverse, Err, OnOk, IsOk, IsErr, IsTrue};
 ghost use Rattle.std.specs.List.{flat_map, AllByRecursion};
-ghost use Rattle.outside.specs.Faults.{HasCause};
+ghost use Rattle.outside.specs.Faults.{CountsFault, HasCause, counted};
 ghost use Rattle.outside.specs.Disks.{disk_state_of};
 ghost use Rattle.ritas_base.specs.declared.event.Event.{Event};
 ghost use Rattle.schedule_file.specs.FileBytes.{limit};
@@ -96,6 +96,7 @@ fn keep<D: Disk>(disk: &mut D, gate: u64, text: &[u8]) -> Result<(), Failed>
         → gate ≡ length (closed_front head es) → text.now ≡ behind_text more → gate + 1 + length text.now ≤ limit
         → AllOpen me head es (disk_state_of (D.told disk.old)) → KeepsJournal me head es more (D.told disk.old) (D.told disk.new) result }
     ensures cause { HasCause (D.faults disk.old) (D.faults disk.new) (IsErr result) }
+    ensures counts { D.faults disk.new ≡ counted (D.faults disk.old) result }
 {
     put(disk, gate + 1, text)?;
     put(disk, gate, &[1])
@@ -143,7 +144,8 @@ impl Journal {
     /// are two syncs, however many events there are; where there is none, nothing is done.
     ///
     /// `Full` comes exactly where the file would become longer than 67,108,864 bytes, with its length then, up to 2^64 - 1, and
-    /// leaves all as before. `Disk` comes only where the disk failed. After `Disk` and `Mem` the journal isn't live.
+    /// leaves all as before. `Disk` comes only where the disk failed: at its first call that fails this one ends, so the disk's count of faults rises
+    /// by one, and at any other answer it stands. After `Disk` and `Mem` the journal isn't live.
     pub fn append_all<D: Disk>(
         &mut self,
         alloc: Global,
@@ -161,6 +163,7 @@ impl Journal {
         ensures over { (result ≡ Err JournalFault.Disk) ⊎ (result ≡ Err JournalFault.Mem) → self.new.live ≡ false }
         ensures me { self.new.me ≡ self.old.me }
         ensures cause { HasCause (D.faults disk.old) (D.faults disk.new) (result ≡ Err JournalFault.Disk) }
+        ensures counts { CountsFault (D.faults disk.old) (D.faults disk.new) result (result ≡ Err JournalFault.Disk) }
     {
         let size = size_with(self.end + 1, self.me, events);
         if size > FILE_LIMIT as u64 {
@@ -195,6 +198,7 @@ impl Journal {
         ensures over { (result ≡ Err JournalFault.Disk) ⊎ (result ≡ Err JournalFault.Mem) → self.new.live ≡ false }
         ensures me { self.new.me ≡ self.old.me }
         ensures cause { HasCause (D.faults disk.old) (D.faults disk.new) (result ≡ Err JournalFault.Disk) }
+        ensures counts { CountsFault (D.faults disk.old) (D.faults disk.new) result (result ≡ Err JournalFault.Disk) }
     {
         // Its end is below the limit.
         let _ = &self.end;

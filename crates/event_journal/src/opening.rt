@@ -1,6 +1,6 @@
 //! Opening a journal.
 ghost use Rattle.std.specs.Prelude.{◌≡◌, ◌<◌, ◌≤◌, ◌+◌, ◌++◌, ◌∷◌, ◌⊎◌, [], ℕ, List, true, length, reverse, slice_index, Err, IfOk, IsErr, ◌≢◌};
-ghost use Rattle.outside.specs.Faults.{HasCause};
+ghost use Rattle.outside.specs.Faults.{CountsFault, HasCause, counted};
 ghost use Rattle.outside.specs.Disks.{LeavesOnly, at_rest, disk_state_of};
 ghost use Rattle.schedule_file.specs.FileBytes.{limit};
 ghost use Rattle.std.specs.List.{AllByRecursion};
@@ -22,6 +22,7 @@ fn clear<D: Disk>(disk: &mut D, file: &[u8]) -> Result<(), Failed>
     ensures cleared { D.tells ≡ true → (me : ℕ) (head : List ℕ) → disk_state_of (D.told disk.old) ≡ at_rest file.now
         → Clears me head (D.told disk.old) (D.told disk.new) result }
     ensures cause { HasCause (D.faults disk.old) (D.faults disk.new) (IsErr result) }
+    ensures counts { D.faults disk.new ≡ counted (D.faults disk.old) result }
 {
     if file.is_empty() || file[0] == 1 {
         return put(disk, 0, &[0]);
@@ -34,6 +35,7 @@ fn write_head<D: Disk>(disk: &mut D, text: &[u8; 52]) -> Result<(), Failed>
     ensures made { D.tells ≡ true → (me : ℕ) (head : List ℕ) → text.now ≡ head ++ 0 ∷ [] → RestsClear (disk_state_of (D.told disk.old))
         → Makes me head (D.told disk.old) (D.told disk.new) result }
     ensures cause { HasCause (D.faults disk.old) (D.faults disk.new) (IsErr result) }
+    ensures counts { D.faults disk.new ≡ counted (D.faults disk.old) result }
 {
     put(disk, 1, text)?;
     put(disk, 0, &[1])
@@ -55,6 +57,7 @@ fn make<D: Disk>(disk: &mut D, file: &[u8], head: &[u8; 51]) -> Result<(), Faile
     ensures made { D.tells ≡ true → (me : ℕ) → disk_state_of (D.told disk.old) ≡ at_rest file.now
         → Makes me head.now (D.told disk.old) (D.told disk.new) result }
     ensures cause { HasCause (D.faults disk.old) (D.faults disk.new) (IsErr result) }
+    ensures counts { D.faults disk.new ≡ counted (D.faults disk.old) result }
 {
     clear(disk, file)?;
     write_head(disk, &with_gate(head))
@@ -106,6 +109,7 @@ fn open_file<D: Disk>(
     ensures broken { (p : ℕ) → result ≡ Err (JournalFault.Broken p) → IsBroken me head.now file.now p }
     ensures full { (p : ℕ) → result ≢ Err (JournalFault.Full p) }
     ensures cause { HasCause (D.faults disk.old) (D.faults disk.new) (result ≡ Err JournalFault.Disk) }
+    ensures counts { CountsFault (D.faults disk.old) (D.faults disk.new) result (result ≡ Err JournalFault.Disk) }
 {
     if is_unmade(file) {
         return match make(disk, file, head) {
@@ -124,7 +128,8 @@ fn open_file<D: Disk>(
 ///
 /// `Full` comes where the file has more than 67,108,864 bytes, and else `Foreign` where it is made and has another head, and else
 /// `Broken` where an open gate isn't followed by a record and a gate. By `journal_laws` no file is two of these, or one and opens,
-/// so each comes exactly there where the disk and the memory don't fail. `Disk` comes only where the disk failed.
+/// so each comes exactly there where the disk and the memory don't fail. `Disk` comes only where the disk failed: at its first call
+/// that fails this one ends, so the disk's count of faults rises by one, and at any other answer it stands.
 pub fn open_journal<D: Disk>(
     alloc: Global,
     disk: &mut D,
@@ -149,6 +154,7 @@ pub fn open_journal<D: Disk>(
     ensures broken { D.tells ≡ true → (p : ℕ) → result ≡ Err (JournalFault.Broken p) → IsBroken me head.now (disk_state_of (D.told disk.old)).seen p }
     ensures full { (x : ℕ) → result ≡ Err (JournalFault.Full x) → (x ≡ limit + 1) × (D.tells ≡ true → limit < length (disk_state_of (D.told disk.old)).seen) }
     ensures cause { HasCause (D.faults disk.old) (D.faults disk.new) (result ≡ Err JournalFault.Disk) }
+    ensures counts { CountsFault (D.faults disk.old) (D.faults disk.new) result (result ≡ Err JournalFault.Disk) }
 {
     match disk.sync() {
         Ok(()) => {}

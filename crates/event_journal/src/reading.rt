@@ -1,6 +1,6 @@
 //! Reading a journal's file.
 ghost use Rattle.std.specs.Prelude.{◌≡◌, ◌≢◌, ◌<◌, ◌≤◌, ◌+◌, ◌∷◌, ◌↔◌, ℕ, List, true, length, take, drop, reverse, slice_index, Err, Ok, IfOk, OnOk, IsErr, IsTrue, MatchOption, MatchResult};
-ghost use Rattle.outside.specs.Faults.{HasCause};
+ghost use Rattle.outside.specs.Faults.{CountsFault, HasCause};
 ghost use Rattle.outside.specs.Disks.{disk_state_of};
 ghost use Rattle.ritas_base.specs.declared.event.Event.{Event};
 ghost use Rattle.schedule_file.specs.FileBytes.{limit};
@@ -21,6 +21,7 @@ pub(crate) fn read_file<D: Disk>(alloc: Global, disk: &mut D) -> Result<Vec<u8>,
     ensures others { (p : ℕ) → (result ≢ Err (JournalFault.Foreign p)) × (result ≢ Err (JournalFault.Broken p)) }
     ensures same { D.tells ≡ true → D.told disk.new ≡ D.told disk.old }
     ensures cause { HasCause (D.faults disk.old) (D.faults disk.new) (result ≡ Err JournalFault.Disk) }
+    ensures counts { CountsFault (D.faults disk.old) (D.faults disk.new) result (result ≡ Err JournalFault.Disk) }
 {
     let mut file = Vec::new(alloc);
     let mut piece = [0; 4096];

@@ -16,9 +16,10 @@ use std::rt::Files;
 /// another has the file open as a disk, and syncs the folder, so that a file that was made stays. A sync is one of the file's
 /// data and length (`fdatasync`).
 ///
-/// After a sync that failed, what a read gives needn't be on the device, though a later sync answers Ok: Linux marks the pages of a failed sync as
-/// clean. A program that is started anew reads the same pages. So the page cache is to be dropped before the file is opened again, by a restart of the
-/// machine, or where its file system is unmounted and mounted again.
+/// After a sync that failed, what a read gives needn't be on the disk, though a later sync answers Ok. On Linux the pages that
+/// couldn't be written are then marked as written: they stay in the system's cache, so also a program that is started anew reads
+/// them, and its sync has nothing to do. So the cache has to go before the file is opened again: the machine is restarted, or the file
+/// system is unmounted and mounted again. Then a read gives what the device has, which is an image of the file.
 ///
 /// That the system's calls do what they say is trusted: no contract can name what the file holds.
 #[derive(Drop)]

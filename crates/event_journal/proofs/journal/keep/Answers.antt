@@ -4,6 +4,7 @@ use Rattle.outside.specs.Disks.{LeavesOnly, LeavesTorn, disk_state_of, at_rest, 
 use Rattle.schedule_file.specs.FileBytes.{limit}
 use Rattle.event_journal.specs.Journal.{records}
 use Rattle.event_journal.proofs.Images.{first_since, kept, records_tail}
+use Rattle.outside.specs.FaultsLaws.{counted_stops, counted_then}
 use Rattle.event_journal.proofs.journal.keep.Goals as goal
 
 pub returns-in_err-put-clause-kept : goal.returns-in_err-put-clause-kept
@@ -34,3 +35,9 @@ returns-clause-kept g c = λ tells me head es more some all place text low were.
     let since = subst (λ (x : List ℕ). LeavesOnly (LeavesTorn (record { at = c.args.gate + 1; count = length x }) s) old mid) text_is (c.in_ok-put.ensures.since tells) in
     let whole = subst (λ (x : List ℕ). disk_state_of mid ≡ at_rest (bytes_written (c.args.gate + 1) x s.seen)) text_is (c.in_ok-put.ensures.whole tells) in
     kept me head es more tail tail_is all c.args.gate place low' c.put-2.result old mid new were whole since (c.put-2.ensures.whole tells) (c.put-2.ensures.since tells)
+
+pub returns-in_err-put-clause-counts : goal.returns-in_err-put-clause-counts
+returns-in_err-put-clause-counts g c = counted_stops _ _ c.from_residual.result c.from_residual.ensures.0 c.in_err-put.ensures.counts
+
+pub returns-clause-counts : goal.returns-clause-counts
+returns-clause-counts g c = counted_then _ _ _ c.put-2.result c.in_ok-put.ensures.counts c.put-2.ensures.counts

@@ -1,4 +1,4 @@
-use Rattle.std.proofs.Common.{◌≡◌, Err, ◌++◌, suc, [], length, ap, arith, rules, length-append}
+use Rattle.std.proofs.Common.{◌≡◌, Err, ◌++◌, suc, [], length, ap, arith, rules, length-append, refl}
 use Rattle.outside.specs.DisksLaws.{leaves_weaker}
 use Rattle.event_journal.specs.Journal.{IsUnmade}
 use Rattle.event_journal.specs.Appending.{JournalState}
@@ -39,4 +39,11 @@ pub returns-in-Err-decode-clause-cause : goal.returns-in-Err-decode-clause-cause
 returns-in-Err-decode-clause-cause g c = record {
   later = omega arith;
   cause = λ is. let same : c.in-Err-decode.fault ≡ faults.Disk = cc is in absurd ((c.in-Err-decode.ensures.others 0).1 (ap (λ (x : JournalFault). Err x) same));
+}
+
+pub returns-in-Err-decode-clause-counts : goal.returns-in-Err-decode-clause-counts
+returns-in-Err-decode-clause-counts g c = record {
+  stands = tt;
+  rises = λ is. let same : c.in-Err-decode.fault ≡ faults.Disk = cc is in absurd ((c.in-Err-decode.ensures.others 0).1 (ap (λ (x : JournalFault). Err x) same));
+  others = λ not. refl;
 }

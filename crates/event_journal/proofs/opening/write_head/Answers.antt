@@ -2,6 +2,7 @@ use Rattle.std.proofs.Common.{◌≡◌, ℕ, List, [], ◌∷◌, length, ap, s
 use Rattle.std.proofs.lemmas.Result.{IfOk-from_err}
 use Rattle.outside.specs.Disks.{LeavesOnly, LeavesTorn, at_rest, disk_state_of, bytes_written}
 use Rattle.event_journal.proofs.Making.{head_since, makes}
+use Rattle.outside.specs.FaultsLaws.{counted_stops, counted_then}
 use Rattle.event_journal.proofs.opening.write_head.Goals as goal
 
 pub returns-in_err-put-clause-made : goal.returns-in_err-put-clause-made
@@ -26,3 +27,9 @@ returns-clause-made g c = λ tells me head text clear.
     let whole = subst (λ (x : List ℕ). disk_state_of mid ≡ at_rest (bytes_written 1 x (disk_state_of old).seen)) text (c.in_ok-put.ensures.whole tells) in
     let since = subst (λ (x : List ℕ). LeavesOnly (LeavesTorn (record { at = 1; count = length x }) (disk_state_of old)) old mid) text (c.in_ok-put.ensures.since tells) in
     makes me head long c.put-2.result old mid new clear whole since (c.put-2.ensures.whole tells) (c.put-2.ensures.since tells)
+
+pub returns-in_err-put-clause-counts : goal.returns-in_err-put-clause-counts
+returns-in_err-put-clause-counts g c = counted_stops _ _ c.from_residual.result c.from_residual.ensures.0 c.in_err-put.ensures.counts
+
+pub returns-clause-counts : goal.returns-clause-counts
+returns-clause-counts g c = counted_then _ _ _ c.put-2.result c.in_ok-put.ensures.counts c.put-2.ensures.counts

@@ -15,7 +15,7 @@ loop-piece-preserved g c =
     let inv = c.loop-piece.invariant in
     record {
       same = λ tells. c.in_ok-came.ensures.same tells ∙ inv.same tells;
-      later = omega (arith, c.in_ok-came.ensures.cause.later, inv.later);
+      stands = c.in_ok-came.ensures.counts ∙ inv.stands;
       front = λ tells.
           let seen = (disk_state_of (g.D.Disk.told c.args.disk.now)).seen in
           read_on seen c.loop-piece.file.items c.read.new.buf _ _ c.in_ok-came.came (search rules) (inv.front tells)

@@ -1,4 +1,4 @@
-use Rattle.std.proofs.Common.{◌≡◌, ◌≤◌, ◌+◌, ◌-◌, length, take, true}
+use Rattle.std.proofs.Common.{◌≡◌, ◌+◌, ◌-◌, length, take, true}
 use Rattle.outside.specs.Disks.{disk_state_of}
 use Rattle.schedule_file.specs.FileBytes.{limit}
 use Rattle.event_journal.proofs.reading.read_file.Given as goal
@@ -6,7 +6,7 @@ use Rattle.event_journal.proofs.reading.read_file.Given as goal
 abbrev pub invariant-loop-piece : goal.invariant-loop-piece
 invariant-loop-piece g l = record {
   same : g.D.Disk.tells ≡ true → g.D.Disk.told l.disk ≡ g.D.Disk.told l.initial.disk;
-  later : g.D.Disk.faults l.initial.disk ≤ g.D.Disk.faults l.disk;
+  stands : g.D.Disk.faults l.disk ≡ g.D.Disk.faults l.initial.disk;
   front : g.D.Disk.tells ≡ true → l.file.items ≡ take (length l.file.items) (disk_state_of (g.D.Disk.told l.initial.disk)).seen;
 }
 
