@@ -9,7 +9,7 @@ import serving
 INIT, ECHO, READY = 1, 2, 3
 DIGESTS = 2
 TAG_BYTES, HEAD_BYTES = 32, 11
-NOTE, ACK = 0x4E, 1
+NOTE, ACK, AGAIN = 0x4E, 1, 2
 NUMBER_AT = 3
 KIND_AT, ORIGIN_AT, PAYLOAD_AT = 0, 9, 10
 
@@ -40,10 +40,19 @@ def is_note(text: bytes) -> bool:
     return text[:1] == bytes([NOTE])
 
 
+def note(key: bytes, sender: int, receiver: int, form: int, number: int) -> bytes:
+    text = struct.pack(">BBBBQ", NOTE, sender, receiver, form, number)
+    return text + tag(key, text)
+
+
 def acknowledgement(key: bytes, sender: int, receiver: int, number: int) -> bytes:
     """The note that the frame of this number was taken."""
-    text = struct.pack(">BBBBQ", NOTE, sender, receiver, ACK, number)
-    return text + tag(key, text)
+    return note(key, sender, receiver, ACK, number)
+
+
+def request_to_resend(key: bytes, sender: int, receiver: int) -> bytes:
+    """The note that asks for all that isn't acknowledged. It has no number of its own, so each is like every other."""
+    return note(key, sender, receiver, AGAIN, 0)
 
 
 def vote(kind: int, init: bytes, version: int = 1) -> bytes:

@@ -1,8 +1,7 @@
 """What nodes write for each other, as a proxy sees it: frames for the first time and again, and notes."""
 from limits import LONGEST_FRAME
-from peers import HEAD_BYTES, TAG_BYTES, tag
+from peers import ACK, AGAIN, HEAD_BYTES, NOTE, TAG_BYTES, tag
 
-NOTE, ACK, AGAIN = 0x4E, 1, 2
 NOTE_BYTES, NOTE_TAG_AT, SEQ_AT = 44, 12, 3
 
 
