@@ -12,7 +12,11 @@
 //! `Replica` does what that says, for every state that its value stands for (`specs/Replica.antt`). Which frames were
 //! made, and how many, follows from the history alone (`specs/Frames.antt`, and the laws [`made_by_entry`],
 //! [`made_length`] and [`made_in_all`]). What other peers sent, and what is held for them, changes nothing of what a peer's
-//! frame does (`specs/Isolation.antt`, the clauses `isolated` of `on_frame` and `on_lazy_frame`, and the law [`isolation`]).
+//! frame does (`specs/Isolation.antt`, the clauses `isolated` of `on_frame`, `on_frame_lazily` and `on_lazy_frame`, and the law
+//! [`isolation`]).
+//!
+//! `on_frame`, `on_input` and `on_turn` put out frames as bytes. The calls named `lazily` do the same, but that the tag of a
+//! frame is computed once its bytes are asked for. A world uses these, since it passes most frames on without asking.
 #![tactic(auto)]
 
 mod following;
