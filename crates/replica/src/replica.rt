@@ -168,9 +168,10 @@ impl<S: Service, E: Broadcast, C: Coin + Drop> Replica<S, E, C> {
     /// where it was to be taken, its log fed or a frame sealed, the replica is stopped, and refuses every later item as
     /// `Stopped`.
     ///
-    /// Want of memory aside, what is answered and put out goes by the replica's history, by what is held for the frame's
-    /// sender and by whether the replica is stopped: it is the same in each state that has these three, whatever others
-    /// sent and whatever is held for them.
+    /// Want of memory aside, what is answered and put out, and which items the replica sends itself, goes by its history, by
+    /// what is held for the frame's sender and by whether the replica is stopped. It is the same in each state that has these
+    /// three, whatever others sent and whatever is held for them. Held items that the frame opens, of whatever peers, come
+    /// into the inbox only behind the items to itself.
     pub fn on_frame(
         &mut self,
         alloc: Global,
@@ -180,7 +181,7 @@ impl<S: Service, E: Broadcast, C: Coin + Drop> Replica<S, E, C> {
         ensures does { ReplicaDoesAll (ReplicaStands (with_keys S.stands S.rules S.shown E.stands E.rules E.shown C.bits))
             self.old self.new (Frame bytes.now) out.old.items out.new.items result }
         ensures isolated { IsIsolated (ReplicaStands (with_keys S.stands S.rules S.shown E.stands E.rules E.shown C.bits))
-            self.old bytes.now out.old.items out.new.items result }
+            self.old self.new bytes.now out.old.items out.new.items result }
     {
         let sent = self.sent;
         let mut made = Vec::new(alloc);
@@ -254,7 +255,7 @@ impl<S: Service, E: Broadcast, C: Coin + Drop> Replica<S, E, C> {
         ensures does { ReplicaDoesAll (ReplicaStands (with_keys S.stands S.rules S.shown E.stands E.rules E.shown C.bits))
             self.old self.new (Frame bytes.now) out.old.items out.new.items result }
         ensures isolated { IsIsolated (ReplicaStands (with_keys S.stands S.rules S.shown E.stands E.rules E.shown C.bits))
-            self.old bytes.now out.old.items out.new.items result }
+            self.old self.new bytes.now out.old.items out.new.items result }
     {
         match self.core.tagger().open(bytes) {
             Ok(opened) => self.on_opened(alloc, opened.from, opened.body, out),
@@ -272,7 +273,7 @@ impl<S: Service, E: Broadcast, C: Coin + Drop> Replica<S, E, C> {
         ensures does { ReplicaDoesAll (ReplicaStands (with_keys S.stands S.rules S.shown E.stands E.rules E.shown C.bits))
             self.old self.new (Frame frame.now) out.old.items out.new.items result }
         ensures isolated { IsIsolated (ReplicaStands (with_keys S.stands S.rules S.shown E.stands E.rules E.shown C.bits))
-            self.old frame.now out.old.items out.new.items result }
+            self.old self.new frame.now out.old.items out.new.items result }
     {
         match self.core.tagger().open_lazily(frame) {
             Ok(opened) => self.on_opened(alloc, opened.from, opened.body, out),
@@ -291,7 +292,7 @@ impl<S: Service, E: Broadcast, C: Coin + Drop> Replica<S, E, C> {
         ensures does { DoesOpened (ReplicaStands (with_keys S.stands S.rules S.shown E.stands E.rules E.shown C.bits))
             self.old self.new from body.now out.old.items out.new.items result }
         ensures isolated { IsOpenedIsolated (ReplicaStands (with_keys S.stands S.rules S.shown E.stands E.rules E.shown C.bits))
-            self.old from body.now out.old.items out.new.items result }
+            self.old self.new from body.now out.old.items out.new.items result }
     {
         let item = self.read(alloc, from, body)?;
         if self.stopped {
