@@ -1,34 +1,14 @@
 //! Calls on the replicas that are served.
-ghost use Rattle.std.specs.Prelude.{◌≡◌, ◌++◌, OnOk};
 
 use crate::enter::enter_rows;
 use crate::house::House;
 use crate::output::Output;
 use crate::refusals::{is_kept, told};
-use keyed_channel::LazyFrame;
 use layer_api::{Broadcast, Service};
 use replica::{OutFrame, Refusal};
-use ritas_base::{Bytes, Coin, Event, Mem};
+use ritas_base::{Coin, Event, Mem};
 use ritas_core::Answer;
 use std::alloc::Global;
-
-// Appends these frames of a replica as they are sent: with their tags. The one error is want of memory.
-fn seal_each(
-    alloc: Global,
-    made: &[OutFrame<LazyFrame>],
-    frames: &mut Vec<OutFrame<Bytes>>,
-) -> Result<(), Mem>
-    ensures { OnOk result (frames.new.items ≡ frames.old.items ++ made.now) }
-{
-    for frame in made {
-        let bytes = frame.bytes.to_bytes(alloc)?;
-        frames.push(OutFrame {
-            to: frame.to,
-            bytes,
-        })?;
-    }
-    Ok(())
-}
 
 impl<S: Service, E: Broadcast, C: Coin + Drop> House<S, E, C> {
     ghost use Rattle.std.specs.Prelude.{◌≡◌, ℕ, ◌∷◌, ◌++◌, List, true, length, map, Some, IfSome, IfOk, OnOk};
@@ -60,13 +40,13 @@ impl<S: Service, E: Broadcast, C: Coin + Drop> House<S, E, C> {
         }
     }
 
-    // Makes the call that an event is on the replica at a place, and answers what it answered. The one error is want of memory.
-    fn call_replica(
+    /// Makes the call that an event is on the replica at a place, and answers what it answered. The one error is want of memory.
+    pub(crate) fn give(
         &mut self,
         alloc: Global,
         place: usize,
         event: &Event,
-        frames: &mut Vec<OutFrame<LazyFrame>>,
+        frames: &mut Vec<OutFrame>,
     ) -> Result<Result<Answer, Refusal>, Mem>
         ensures does { let m = meaning_of S.Service E.Broadcast C.Coin in
             (w : Setting) (es : List Event) (numbers : List ℕ) (at : ℕ) → AreHere m w es numbers self.old.replicas.items
@@ -91,31 +71,6 @@ impl<S: Service, E: Broadcast, C: Coin + Drop> House<S, E, C> {
             _ => return Ok(Ok(Answer::Idle)),
         };
         told(answer)
-    }
-
-    /// Makes the call that an event is on the replica at a place, and answers what it answered. The one error is want of memory.
-    pub(crate) fn give(
-        &mut self,
-        alloc: Global,
-        place: usize,
-        event: &Event,
-        frames: &mut Vec<OutFrame<Bytes>>,
-    ) -> Result<Result<Answer, Refusal>, Mem>
-        ensures does { let m = meaning_of S.Service E.Broadcast C.Coin in
-            (w : Setting) (es : List Event) (numbers : List ℕ) (at : ℕ) → AreHere m w es numbers self.old.replicas.items
-            → slice_get numbers place ≡ Some at
-            → IsAlone at event.now → OnOk result (AreHere m w (event.now ∷ es) numbers self.new.replicas.items
-            × (map (frame_by at) frames.new.items ≡ map (frame_by at) frames.old.items ++ sent_by w es (Some event.now))) }
-        ensures answered { let m = meaning_of S.Service E.Broadcast C.Coin in
-            (w : Setting) (es : List Event) (numbers : List ℕ) (at : ℕ) → AreHere m w es numbers self.old.replicas.items
-            → slice_get numbers place ≡ Some at
-            → IsAlone at event.now → IfOk result (λ answer. seen_answer answer ≡ seen_of w es event.now) }
-        ensures same { (self.new.waiting ≡ self.old.waiting) × (self.new.keepers ≡ self.old.keepers) }
-    {
-        let mut made = Vec::new(alloc);
-        let answer = self.call_replica(alloc, place, event, &mut made)?;
-        seal_each(alloc, made.as_slice(), frames)?;
-        Ok(answer)
     }
 
     /// The rows that came into the log of the replica at a place, behind the first so many.

@@ -33,14 +33,14 @@ use layer_api::{Broadcast, Service};
 use link_resume::Resume;
 use outside::{Failed, Link, LinkFault, Sink, write_all};
 use replica::OutFrame;
-use ritas_base::{Bytes, Coin, Event, Mem};
+use ritas_base::{Coin, Event, Mem};
 use schedule_file::Writer;
 use std::alloc::Global;
 use std::net::Net;
 use std::sync::Wait;
 
 // Keeps these frames of a replica for their peers, in order. The one error is want of memory.
-fn keep_each(resume: &mut Resume, alloc: Global, frames: &[OutFrame<Bytes>]) -> Result<(), Mem>
+fn keep_each(resume: &mut Resume, alloc: Global, frames: &[OutFrame]) -> Result<(), Mem>
     ensures keeps { (n i k : ℕ) (p : Peers) → All (λ f. head_length ≤ length f.bytes) frames.now → AreKept n i resume.old p.keeping
         → OnOk result (AreKept n i resume.new (keep_all (map (made_as k i) frames.now) p).keeping) }
 {
@@ -78,7 +78,7 @@ fn send_all<R: Net + Wait, L: Link>(
     alloc: Global,
     link: &mut L,
     at: u8,
-    frames: &[OutFrame<Bytes>],
+    frames: &[OutFrame],
 ) -> Result<(), LinkFault>
     ensures sends { LinkTook L.Link (each_act (frame_by at) frames.now) link.old link.new result }
 {

@@ -5,7 +5,7 @@ ghost use Rattle.node_loop.specs.declared.output.More.TheVariants as mores;
 use client_port::REPLY_LEN;
 use keyed_channel::NOTE_LEN;
 use replica::OutFrame;
-use ritas_base::{Bytes, Event};
+use ritas_base::Event;
 use std::alloc::Global;
 
 /// A reply to a connection.
@@ -39,7 +39,7 @@ pub(crate) struct Output {
     /// Whether there is one that a journal keeps.
     pub kept: bool,
     /// The frames, in the order in which they were made.
-    pub frames: Vec<OutFrame<Bytes>>,
+    pub frames: Vec<OutFrame>,
     /// What goes to a peer besides.
     pub more: More,
     /// The replies, in the order in which they go out.

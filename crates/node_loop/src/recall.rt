@@ -20,7 +20,7 @@ use crate::waiting::Waiters;
 use layer_api::{Broadcast, Service};
 use link_resume::Resume;
 use replica::{OutFrame, Refusal};
-use ritas_base::{Bytes, Coin, Event, Mem};
+use ritas_base::{Coin, Event, Mem};
 use ritas_core::Answer;
 use std::alloc::Global;
 
@@ -64,7 +64,7 @@ fn make_room(resume: &mut Resume, peer: u8, size: u64)
 }
 
 // Keeps a frame of a replica for its peer; where it doesn't fit, the oldest are dropped first. The one error is want of memory.
-fn keep_newest(resume: &mut Resume, alloc: Global, frame: &OutFrame<Bytes>) -> Result<(), Mem>
+fn keep_newest(resume: &mut Resume, alloc: Global, frame: &OutFrame) -> Result<(), Mem>
     ensures keeps { (n i k : ℕ) (p : Peers) → head_length ≤ length frame.now.bytes → AreKept n i resume.old p.keeping
         → OnOk result (AreKept n i resume.new (keep_newest (made_as k i frame.now) p).keeping) }
 {
@@ -74,7 +74,7 @@ fn keep_newest(resume: &mut Resume, alloc: Global, frame: &OutFrame<Bytes>) -> R
 }
 
 // Keeps these frames of a replica for their peers so, in order.
-fn all_newest(resume: &mut Resume, alloc: Global, frames: &[OutFrame<Bytes>]) -> Result<(), Mem>
+fn all_newest(resume: &mut Resume, alloc: Global, frames: &[OutFrame]) -> Result<(), Mem>
     ensures keeps { (n i k : ℕ) (p : Peers) → All (λ f. head_length ≤ length f.bytes) frames.now → AreKept n i resume.old p.keeping
         → OnOk result (AreKept n i resume.new (all_newest (map (made_as k i) frames.now) p).keeping) }
 {

@@ -8,4 +8,5 @@ pub mod Passing
 pub mod Opened
 pub mod Made
 pub mod Fresh
+mod Sealed
 mod Isolated

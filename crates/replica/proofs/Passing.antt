@@ -146,7 +146,7 @@ took_handles {S = S} {E = E} {C = C} m old new core what call ms before after r 
 ]
 
 -- the state before a call is that to which the stopped one is brought back
-revived_is : (st : CoreState) (what : What) → st.live ≡ true → st.lost ≡ None → revived (stopped st what) ≡ st
+pub revived_is : (st : CoreState) (what : What) → st.live ≡ true → st.lost ≡ None → revived (stopped st what) ≡ st
 revived_is st what live lost =
     ap (λ (b : Bool). record st { live = b; lost = None }) (sym live) ∙ ap (λ (o : Option Entry). record st { lost = o }) (sym lost)
 

@@ -1,5 +1,5 @@
 -- Worked rows: a peer's frame goes by what is held for that peer, whatever is held for another.
-use Rattle.std.specs.Prelude.{◌≡◌, ◌≢◌, ℕ, zero, suc, true, false, List, [], ◌∷◌, sum_by, None, Result, Ok, Err, refl}
+use Rattle.std.specs.Prelude.{◌≡◌, ◌≢◌, ◌==◌, ℕ, zero, suc, true, false, List, [], ◌∷◌, ◌++◌, length, Bool, sum_by, None, Result, Ok, Err, ⊤, refl}
 use Rattle.std.proofs.Common.{lit≤, ap, arith}
 use Rattle.ritas_base.specs.Numbers.{Numbers}
 use Rattle.ritas_base.specs.declared.mode.Mode.{Mode}
@@ -25,7 +25,7 @@ use Rattle.replica.specs.Out.{OutFrame}
 use Rattle.replica.specs.declared.refusal.Refusal.{Refusal}
 use Rattle.replica.specs.declared.refusal.Refusal.TheVariants as refusals
 use Rattle.replica.specs.Handling.{Handled, given_body, refusal_handled}
-use Rattle.replica.specs.Isolation.{AreAlike, IsConfined, IsAs}
+use Rattle.replica.specs.Isolation.{AreAlike, IsConfined, JoinsInbox, IsAs}
 
 -- ---- replica 0 of four, at a service that has opened no slot
 
@@ -139,11 +139,25 @@ abbrev frame : OutFrame
 frame = record { to = 1; bytes = 5 ∷ [] }
 
 -- the refusal, and no frame
-as_refused : IsAs bad_tag (frame ∷ []) (frame ∷ []) (Err (refusals.Open BadTag))
-as_refused = (refl, refl)
+as_refused : IsAs bad_tag ⊤ (frame ∷ []) (frame ∷ []) (Err (refusals.Open BadTag))
+as_refused = (refl, refl, tt)
 
-one_frame_more : IsAs bad_tag [] (frame ∷ []) (Err (refusals.Open BadTag)) → ⊥
+one_frame_more : IsAs bad_tag ⊤ [] (frame ∷ []) (Err (refusals.Open BadTag)) → ⊥
 one_frame_more does = let wrong : frame ∷ [] ≡ [] = does.1 in cc
 
-another_answer : IsAs bad_tag [] [] (Ok answers.Repeat) → ⊥
+another_answer : IsAs bad_tag ⊤ [] [] (Ok answers.Repeat) → ⊥
 another_answer does = let wrong : Ok answers.Repeat ≡ bad_tag.answer = does.0 in cc
+
+-- ---- what a frame adds to the inbox
+
+-- an item to oneself, and then one that was held
+own_first : JoinsInbox (init 0 1 ∷ []) (holding 8 20) (record (holding 8 20) { inbox = init 0 1 ∷ init 1 0 ∷ [] })
+own_first = record { opened = λ x. x.from == 1; inbox = refl }
+
+-- an item to oneself doesn't come behind that
+own_later : JoinsInbox (init 0 1 ∷ []) (holding 8 20) (record (holding 8 20) { inbox = init 1 0 ∷ init 0 1 ∷ [] }) → ⊥
+own_later joins = let wrong : 1 ≡ 0 = ap (λ (xs : List Item). first_sender xs) joins.inbox in omega (arith, wrong)
+  where
+    first_sender : List Item → ℕ
+    first_sender [] = 9
+    first_sender (x ∷ xs) = x.from

@@ -1,5 +1,5 @@
 -- What the parts of a call on a replica do: a frame is read, and what the core answers and puts out is passed on.
-use Rattle.std.specs.Prelude.{◌≡◌, ℕ, ◌+◌, ◌%◌, ◌^◌, true, List, ◌∷◌, ◌++◌, length, Result, Ok, Err}
+use Rattle.std.specs.Prelude.{◌≡◌, ℕ, ◌+◌, ◌%◌, ◌^◌, true, List, [], ◌∷◌, ◌++◌, length, Result, Ok, Err}
 use Rattle.ritas_base.specs.declared.item.Item.{Item}
 use Rattle.ritas_base.specs.declared.item.Msg.{Msg}
 use Rattle.frame_codec.specs.declared.fault.BodyFault.{BodyFault}
@@ -24,6 +24,9 @@ use Rattle.replica.specs.declared.replica.Replica.{Replica}
 use Rattle.replica.specs.Frames.{frames_of}
 use Rattle.replica.specs.Sending.{AreCounts, counts_with}
 use Rattle.replica.specs.CommandRows.{Follows, LiesBetween}
+use Rattle.replica.specs.Handling.{ReplicaCall}
+use Rattle.replica.specs.Replica.{ReplicaStands}
+use Rattle.replica.specs.Stands.{ReplicaDoesAll}
 
 -- ---- reading
 
@@ -109,3 +112,11 @@ pub record SameRest {S E C : Type 0} (old new : Replica S E C) : Type 0 where
   pub halted : new.stopped ≡ old.stopped
   pub log : new.log ≡ old.log
   pub fed : new.fed ≡ old.fed
+
+-- ---- the frames as bytes
+
+-- whatever call a replica had, which had made so many frames: where that call made these as frames without tags and answered so, the
+-- call does what it is to do with the bytes
+abbrev pub Seals : {S E C : Type 0} → Meaning S E C KeyRow → ℕ → Replica S E C → Replica S E C → Result Answer Refusal → List OutFrame → List OutFrame → List OutFrame → Result Answer Refusal → Type 0
+Seals {S} {E} {C} m sent old new answer made before after result = (first : Replica S E C) (call : ReplicaCall) → first.sent ≡ sent
+    → ReplicaDoesAll (ReplicaStands m) first old call [] made answer → ReplicaDoesAll (ReplicaStands m) first new call before after result

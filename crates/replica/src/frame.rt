@@ -1,9 +1,11 @@
 //! What a replica puts out: a frame for another.
 
-/// A frame that a replica made, and which replica it is for. Contracts see the frame as its bytes: a replica puts out a `LazyFrame`, and
-/// whoever sends it asks that for its bytes.
+use ritas_base::Bytes;
+
+/// A frame that a replica made, and which replica it is for. The calls named `lazily` put out `OutFrame<LazyFrame>`, whose tag is
+/// computed once its bytes are asked for; the others put out the bytes. Contracts see either frame as its bytes.
 #[derive(Drop)]
-pub struct OutFrame<F> {
+pub struct OutFrame<F = Bytes> {
     /// The receiver: a replica below n, and not the one that made the frame.
     pub to: u8,
     /// The sealed frame.

@@ -11,8 +11,12 @@
 //! the frames, in which a state is the history of what the core took, what waits and what is held. Each call on
 //! `Replica` does what that says, for every state that its value stands for (`specs/Replica.antt`). Which frames were
 //! made, and how many, follows from the history alone (`specs/Frames.antt`, and the laws [`made_by_entry`],
-//! [`made_length`] and [`made_in_all`]). What other peers sent, and what is held for them, changes nothing of what a peer's
-//! frame does (`specs/Isolation.antt`, the clauses `isolated` of `on_frame` and `on_lazy_frame`, and the law [`isolation`]).
+//! [`made_length`] and [`made_in_all`]). Of two states of one history, both live or both stopped, in which the same is held for
+//! a peer, a frame of that peer is answered and makes the same, whatever waits and is held for others (`specs/Isolation.antt`,
+//! the clauses `isolated` of `on_frame`, `on_frame_lazily` and `on_lazy_frame`, and the law [`isolation`]).
+//!
+//! `on_frame`, `on_input` and `on_turn` put out frames as bytes. The calls named `lazily` do the same, but that the tag of a
+//! frame is computed once its bytes are asked for. A world uses these, since it passes most frames on without asking.
 #![tactic(auto)]
 
 mod following;

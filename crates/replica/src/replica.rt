@@ -3,7 +3,7 @@
 use crate::following::follow;
 use crate::frame::OutFrame;
 use crate::refusal::Refusal;
-use crate::sending::send;
+use crate::sending::{append_bytes, send};
 use command_log::Log;
 use frame_codec::read_body;
 use keyed_channel::{Channel, Keys, LazyFrame};
@@ -38,7 +38,7 @@ impl<S: Service, E: Broadcast, C: Coin + Drop> Replica<S, E, C> {
     ghost use Rattle.replica.specs.Stands.{ReplicaDoesAll, DoesOpened, frames_made};
     ghost use Rattle.replica.specs.Replica.{ReplicaStands, StandsAhead, with_keys};
     ghost use Rattle.replica.specs.Isolation.{IsIsolated, IsOpenedIsolated};
-    ghost use Rattle.replica.specs.Steps.{ReadsOpened, PutsOut, SameRest, SameCore, FeedsOnly, FeedsSome, FeedsLog, ReplicaFinishes};
+    ghost use Rattle.replica.specs.Steps.{ReadsOpened, PutsOut, SameRest, SameCore, FeedsOnly, FeedsSome, FeedsLog, ReplicaFinishes, Seals};
     ghost use Rattle.layer_api.specs.Service.{IsPart};
     ghost use Rattle.replica.specs.CommandRows.{history_rows};
 
@@ -168,9 +168,85 @@ impl<S: Service, E: Broadcast, C: Coin + Drop> Replica<S, E, C> {
     /// where it was to be taken, its log fed or a frame sealed, the replica is stopped, and refuses every later item as
     /// `Stopped`.
     ///
-    /// Want of memory aside, what is answered and put out goes by the replica's history and by what is held for the frame's
-    /// sender alone: it is the same in each state that has these two, whatever others sent and whatever is held for them.
+    /// Want of memory aside, what is answered and put out, and which items the replica sends itself, goes by its history, by
+    /// what is held for the frame's sender and by whether the replica is stopped. It is the same in each state that has these
+    /// three, whatever others sent and whatever is held for them. Held items that the frame opens, of whatever peers, come
+    /// into the inbox only behind the items to itself.
     pub fn on_frame(
+        &mut self,
+        alloc: Global,
+        bytes: &[u8],
+        out: &mut Vec<OutFrame>,
+    ) -> Result<Answer, Refusal>
+        ensures does { ReplicaDoesAll (ReplicaStands (with_keys S.stands S.rules S.shown E.stands E.rules E.shown C.bits))
+            self.old self.new (Frame bytes.now) out.old.items out.new.items result }
+        ensures isolated { IsIsolated (ReplicaStands (with_keys S.stands S.rules S.shown E.stands E.rules E.shown C.bits))
+            self.old self.new bytes.now out.old.items out.new.items result }
+    {
+        let sent = self.sent;
+        let mut made = Vec::new(alloc);
+        let answer = self.on_frame_lazily(alloc, bytes, &mut made);
+        self.seal(alloc, sent, answer, made, out)
+    }
+
+    /// Gives the core an input. The frames that become due by it are appended to `out`, in the order of the messages and
+    /// for each by receiver.
+    ///
+    /// The one error is `Core`, which leaves the replica and `out` as they were; but `Core(Mem)` stops the replica.
+    pub fn on_input(
+        &mut self,
+        alloc: Global,
+        bytes: &[u8],
+        out: &mut Vec<OutFrame>,
+    ) -> Result<Answer, Refusal>
+        ensures { ReplicaDoesAll (ReplicaStands (with_keys S.stands S.rules S.shown E.stands E.rules E.shown C.bits))
+            self.old self.new (Input bytes.now) out.old.items out.new.items result }
+    {
+        let sent = self.sent;
+        let mut made = Vec::new(alloc);
+        let answer = self.on_input_lazily(alloc, bytes, &mut made);
+        self.seal(alloc, sent, answer, made, out)
+    }
+
+    /// Takes the item at the front of the inbox out of it, and gives it to the core; `Idle` where none waits. The frames
+    /// that become due by it are appended to `out`, in the order of the messages and for each by receiver.
+    ///
+    /// The one error is `Core`, which leaves `out` as it was, and the replica but that the item has left the inbox.
+    /// `Core(Mem)` leaves all as it was where the item was to be held; where it was to be taken, the replica is stopped.
+    pub fn on_turn(&mut self, alloc: Global, out: &mut Vec<OutFrame>) -> Result<Answer, Refusal>
+        ensures { ReplicaDoesAll (ReplicaStands (with_keys S.stands S.rules S.shown E.stands E.rules E.shown C.bits))
+            self.old self.new Turn out.old.items out.new.items result }
+    {
+        let sent = self.sent;
+        let mut made = Vec::new(alloc);
+        let answer = self.on_turn_lazily(alloc, &mut made);
+        self.seal(alloc, sent, answer, made, out)
+    }
+
+    // Answers what a call did, and appends the frames that it made, with their tags. For want of memory none is appended and the
+    // replica is stopped: then it made as many frames as it had before the call.
+    fn seal(
+        &mut self,
+        alloc: Global,
+        sent: u64,
+        answer: Result<Answer, Refusal>,
+        made: Vec<OutFrame<LazyFrame>>,
+        out: &mut Vec<OutFrame>,
+    ) -> Result<Answer, Refusal>
+        ensures { Seals (with_keys S.stands S.rules S.shown E.stands E.rules E.shown C.bits)
+            sent self.old self.new answer made.items out.old.items out.new.items result }
+    {
+        history_laws();
+        if append_bytes(alloc, made.as_slice(), out).is_err() {
+            self.sent = sent;
+            self.stopped = true;
+            return Err(Refusal::Core(CoreFault::Mem));
+        }
+        answer
+    }
+
+    /// Does all that `on_frame` does, but that a frame's tag is computed once its bytes are asked for.
+    pub fn on_frame_lazily(
         &mut self,
         alloc: Global,
         bytes: &[u8],
@@ -179,7 +255,7 @@ impl<S: Service, E: Broadcast, C: Coin + Drop> Replica<S, E, C> {
         ensures does { ReplicaDoesAll (ReplicaStands (with_keys S.stands S.rules S.shown E.stands E.rules E.shown C.bits))
             self.old self.new (Frame bytes.now) out.old.items out.new.items result }
         ensures isolated { IsIsolated (ReplicaStands (with_keys S.stands S.rules S.shown E.stands E.rules E.shown C.bits))
-            self.old bytes.now out.old.items out.new.items result }
+            self.old self.new bytes.now out.old.items out.new.items result }
     {
         match self.core.tagger().open(bytes) {
             Ok(opened) => self.on_opened(alloc, opened.from, opened.body, out),
@@ -187,8 +263,8 @@ impl<S: Service, E: Broadcast, C: Coin + Drop> Replica<S, E, C> {
         }
     }
 
-    /// Takes a frame that a channel made, and does all that `on_frame` does with its bytes. The code computes no tag where that channel shares its key
-    /// with this replica; no clause says so.
+    /// Takes a frame that a channel made, and does all that `on_frame_lazily` does with its bytes. The code computes no tag where that
+    /// channel shares its key with this replica; no clause says so.
     pub fn on_lazy_frame(
         &mut self,
         alloc: Global,
@@ -198,7 +274,7 @@ impl<S: Service, E: Broadcast, C: Coin + Drop> Replica<S, E, C> {
         ensures does { ReplicaDoesAll (ReplicaStands (with_keys S.stands S.rules S.shown E.stands E.rules E.shown C.bits))
             self.old self.new (Frame frame.now) out.old.items out.new.items result }
         ensures isolated { IsIsolated (ReplicaStands (with_keys S.stands S.rules S.shown E.stands E.rules E.shown C.bits))
-            self.old frame.now out.old.items out.new.items result }
+            self.old self.new frame.now out.old.items out.new.items result }
     {
         match self.core.tagger().open_lazily(frame) {
             Ok(opened) => self.on_opened(alloc, opened.from, opened.body, out),
@@ -217,7 +293,7 @@ impl<S: Service, E: Broadcast, C: Coin + Drop> Replica<S, E, C> {
         ensures does { DoesOpened (ReplicaStands (with_keys S.stands S.rules S.shown E.stands E.rules E.shown C.bits))
             self.old self.new from body.now out.old.items out.new.items result }
         ensures isolated { IsOpenedIsolated (ReplicaStands (with_keys S.stands S.rules S.shown E.stands E.rules E.shown C.bits))
-            self.old from body.now out.old.items out.new.items result }
+            self.old self.new from body.now out.old.items out.new.items result }
     {
         let item = self.read(alloc, from, body)?;
         if self.stopped {
@@ -228,11 +304,8 @@ impl<S: Service, E: Broadcast, C: Coin + Drop> Replica<S, E, C> {
         self.finish(alloc, answer, msgs, out)
     }
 
-    /// Gives the core an input. The frames that become due by it are appended to `out`, in the order of the messages and
-    /// for each by receiver.
-    ///
-    /// The one error is `Core`, which leaves the replica and `out` as they were; but `Core(Mem)` stops the replica.
-    pub fn on_input(
+    /// Does all that `on_input` does, but that a frame's tag is computed once its bytes are asked for.
+    pub fn on_input_lazily(
         &mut self,
         alloc: Global,
         bytes: &[u8],
@@ -249,12 +322,8 @@ impl<S: Service, E: Broadcast, C: Coin + Drop> Replica<S, E, C> {
         self.finish(alloc, answer, msgs, out)
     }
 
-    /// Takes the item at the front of the inbox out of it, and gives it to the core; `Idle` where none waits. The frames
-    /// that become due by it are appended to `out`, in the order of the messages and for each by receiver.
-    ///
-    /// The one error is `Core`, which leaves `out` as it was, and the replica but that the item has left the inbox.
-    /// `Core(Mem)` leaves all as it was where the item was to be held; where it was to be taken, the replica is stopped.
-    pub fn on_turn(
+    /// Does all that `on_turn` does, but that a frame's tag is computed once its bytes are asked for.
+    pub fn on_turn_lazily(
         &mut self,
         alloc: Global,
         out: &mut Vec<OutFrame<LazyFrame>>,

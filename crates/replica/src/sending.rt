@@ -1,6 +1,6 @@
 //! How messages become frames.
 
-ghost use Rattle.std.specs.Prelude.{◌≡◌, ℕ, not, ◌==◌, ◌&&◌, ◌≤◌, ◌++◌, EachIndex, map, slice_index, OnOk};
+ghost use Rattle.std.specs.Prelude.{◌≡◌, ◌≢◌, ℕ, not, ◌==◌, ◌&&◌, ◌≤◌, ◌++◌, [], EachIndex, map, slice_index, OnOk, OnErr};
 ghost use Rattle.ritas_base.specs.Messages.{reaches};
 ghost use Rattle.replica.specs.Frames.{frame_for, receivers, frames_of};
 ghost use Rattle.replica.specs.Sending.{AreCounts, Sends, raised_at};
@@ -89,5 +89,31 @@ pub(crate) fn send(
         seal_each(alloc, channel, counts, msg, made)?;
         raise(counts, to);
     }
+    Ok(())
+}
+
+// Appends the frames as bytes: their tags are computed. For want of memory none is appended, and where there are no frames none is
+// needed.
+pub(crate) fn append_bytes(
+    alloc: Global,
+    made: &[OutFrame<LazyFrame>],
+    out: &mut Vec<OutFrame>,
+) -> Result<(), Mem>
+    ensures ok { OnOk result (out.new.items ≡ out.old.items ++ made.now) }
+    ensures err { OnErr result (out.new.items ≡ out.old.items) }
+    ensures only { OnErr result (made.now ≢ []) }
+{
+    if made.is_empty() {
+        return Ok(());
+    }
+    let mut frames = Vec::new(alloc);
+    for frame in made {
+        let bytes = frame.bytes.to_bytes(alloc)?;
+        frames.push(OutFrame {
+            to: frame.to,
+            bytes,
+        })?;
+    }
+    out.append(&mut frames)?;
     Ok(())
 }

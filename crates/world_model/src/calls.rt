@@ -48,7 +48,7 @@ pub(crate) fn give_frame<S: Service, E: Broadcast, C: Coin + Drop>(
         return Ok(Seen::Missed);
     }
     match &mut replicas[place] {
-        Some(replica) => seen(replica.on_frame(alloc, bytes, out)),
+        Some(replica) => seen(replica.on_frame_lazily(alloc, bytes, out)),
         None => Ok(Seen::Missed),
     }
 }
@@ -94,7 +94,7 @@ pub(crate) fn give_input<S: Service, E: Broadcast, C: Coin + Drop>(
         return Ok(Seen::Missed);
     }
     match &mut replicas[place] {
-        Some(replica) => seen(replica.on_input(alloc, bytes, out)),
+        Some(replica) => seen(replica.on_input_lazily(alloc, bytes, out)),
         None => Ok(Seen::Missed),
     }
 }
@@ -116,7 +116,7 @@ pub(crate) fn give_turn<S: Service, E: Broadcast, C: Coin + Drop>(
         return Ok(Seen::Missed);
     }
     match &mut replicas[place] {
-        Some(replica) => seen(replica.on_turn(alloc, out)),
+        Some(replica) => seen(replica.on_turn_lazily(alloc, out)),
         None => Ok(Seen::Missed),
     }
 }

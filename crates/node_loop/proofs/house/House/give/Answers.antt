@@ -2,8 +2,8 @@ use Rattle.std.proofs.Common.{ap, sym, ◌∙◌}
 use Rattle.replica.specs.Handling.{Frame, Input, Turn}
 use Rattle.node_loop.proofs.Alone.{call_in}
 use Rattle.node_loop.proofs.Heres.{gave, answers}
-use Rattle.node_loop.proofs.house.House.call_replica.Goals as goal
-use Rattle.node_loop.proofs.house.House.call_replica.Goals.{in-Frame, in-Input, in-Turn}
+use Rattle.node_loop.proofs.house.House.give.Goals as goal
+use Rattle.node_loop.proofs.house.House.give.Goals.{in-Frame, in-Input, in-Turn}
 
 pub returns-clause-does : goal.returns-clause-does
 returns-clause-does g c = λ w es numbers at stand number alone. elim c.match-event.branch [

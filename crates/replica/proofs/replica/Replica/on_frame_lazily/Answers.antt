@@ -6,7 +6,7 @@ use Rattle.replica.specs.Replica.{ReplicaStands, with_keys}
 use Rattle.replica.specs.declared.refusal.Refusal.TheVariants as refusals
 use Rattle.replica.proofs.Opened.{refuses}
 use Rattle.replica.proofs.Isolated.{isolated}
-use Rattle.replica.proofs.replica.Replica.on_frame.Goals as goal
+use Rattle.replica.proofs.replica.Replica.on_frame_lazily.Goals as goal
 
 pub returns-in-Ok-clause-does : goal.returns-in-Ok-clause-does
 returns-in-Ok-clause-does g c = λ r k st stands.

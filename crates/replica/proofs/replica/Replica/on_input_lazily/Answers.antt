@@ -2,7 +2,7 @@ use Rattle.std.proofs.Common.{refl}
 use Rattle.ritas_core.specs.Machine as core
 use Rattle.replica.specs.Handling.{Input}
 use Rattle.replica.proofs.Passing.{passes}
-use Rattle.replica.proofs.replica.Replica.on_input.Goals as goal
+use Rattle.replica.proofs.replica.Replica.on_input_lazily.Goals as goal
 
 pub returns : goal.returns
 returns g c = λ r k st stands.
