@@ -1,10 +1,12 @@
 """Small cases of a node's journal: what it has, whose it is, what is damaged, and where it ends. Most are of one replica alone, whose command is in
 the log after some turns."""
+import fcntl
 import hashlib
 import os
 import resource
 import stat
 import struct
+import subprocess
 import tempfile
 
 import serving
@@ -39,6 +41,14 @@ class Plain(serving.Node):
             self.start()
         finally:
             resource.setrlimit(resource.RLIMIT_FSIZE, before)
+
+
+class Watched(Plain):
+    """One with these words in its environment."""
+
+    def __init__(self, home: str, session: serving.Session, text: bytes, environment: dict):
+        self.OPTIONS = {**Plain.OPTIONS, "env": environment}
+        super().__init__(home, session, text)
 
 
 def head_of(session: serving.Session, me: int) -> bytes:
@@ -339,7 +349,43 @@ def the_disk_fills(folder: str) -> None:
     check(serving.events_of(node.record())[: len(kept)] == kept, "the next record doesn't begin with what was kept")
 
 
+def disk_calls(folder: str, home: str, session: serving.Session, first: int) -> list:
+    """The calls of the system on the journal and on its folder, in order, of a node alone that is handed some commands, from this number on. Each is its
+    name, what it is on, and a number."""
+    counter, calls = os.path.join(folder, "disk_calls.so"), os.path.join(folder, "calls")
+    source = os.path.join(os.path.dirname(os.path.abspath(__file__)), "disk_calls.c")
+    subprocess.run(["gcc", "-O2", "-D_GNU_SOURCE", "-shared", "-fPIC", source, "-ldl", "-o", counter], check=True)
+    if os.path.exists(calls):
+        os.remove(calls)
+    node = Watched(home, session, session.node_config(0), {**os.environ, "LD_PRELOAD": counter, "CALLS": calls})
+    try:
+        serving.await_links([node], session)
+        wanted = list(range(first, first + COMMANDS))
+        check([ask(session, request) for request in wanted] == wanted, "the positions aren't those of the commands")
+        serving.await_quiet([node])
+    finally:
+        node.stop()
+    rows = [line.split() for line in read(calls).decode().splitlines()]
+    return [(name, on, int(number, 8)) for name, on, number in rows]
+
+
+def calls_of_the_disk(folder: str) -> None:
+    """The file is made for its owner alone, locked, and its folder synced, before anything else; then it is synced and read, and each write is
+    followed by a sync of its own, which is fdatasync. The next life, whose file is there, begins with the same calls."""
+    session, home = serving.Session(1, 0, journal=True), home_in(folder)
+    opens = [("open", "journal", 0o600), ("flock", "journal", fcntl.LOCK_EX | fcntl.LOCK_NB), ("open", "folder", 0), ("fsync", "folder", 0)]
+    for number, life in enumerate(("the first life", "the next life")):
+        calls = disk_calls(folder, home, session, number * COMMANDS)
+        check(calls[: len(opens)] == opens, f"{life} begins with {calls[: len(opens)]}")
+        first, rest = calls[len(opens)], calls[len(opens) + 1 :]
+        check(first == ("fdatasync", "journal", 0), f"{life}: the file is opened, and then comes {first}")
+        writes = [call[0] for call in rest if call[0] != "pread"]
+        wanted = ["pwrite", "fdatasync"] * (len(writes) // 2)
+        check(len(writes) > 4 * COMMANDS and writes == wanted, f"{life}: of {len(writes)} calls behind it not each second one is a sync of its own")
+        check({call[1] for call in rest} == {"journal"}, f"{life}: the folder is called again")
+
+
 TESTS = (
     what_a_journal_has, it_goes_on, a_second_node_is_refused, of_another_session, damaged, begun, too_long, becomes_too_long, without_a_journal,
-    the_disk_fails, the_disk_fills,
+    the_disk_fails, the_disk_fills, calls_of_the_disk,
 )
