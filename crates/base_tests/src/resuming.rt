@@ -72,3 +72,66 @@ fn the_oldest_makes_room(rt: HostRuntime) {
     assert!(rt; resume.bytes(1) == 100);
     assert!(rt; resume.waiting(1, 0).is_some_and(|kept| kept.seq == 1));
 }
+
+// Keeps this frame for the one peer under each number below this one.
+fn keep_all(rt: HostRuntime, resume: &mut Resume, frame: &[u8], many: u64) -> bool {
+    for seq in 0..many {
+        if resume.peers() != 1 || resume.keep(rt.alloc(), 0, seq, frame).is_err() {
+            return false;
+        }
+    }
+    true
+}
+
+// The peer acknowledges every second of these, the newest first.
+fn acknowledge_half(resume: &mut Resume, many: u64) {
+    for seq in (0..many / 2).rev() {
+        if resume.peers() == 1 {
+            resume.acked(0, 2 * seq);
+        }
+    }
+}
+
+// Whether what is kept has the odd numbers, in their order.
+fn are_odd(resume: &Resume) -> bool {
+    let mut next: u64 = 1;
+    if resume.peers() == 1 {
+        for kept in resume.frames(0) {
+            if kept.seq != next {
+                return false;
+            }
+            next = kept.seq.saturating_add(2);
+        }
+    }
+    true
+}
+
+// A hundred thousand frames are kept, and every second one is acknowledged, the newest first: the others stay in their order, and the oldest make room.
+#[test]
+fn many_are_acknowledged(rt: HostRuntime) {
+    let mut resume = Resume::new(rt.alloc(), 1).expect(&rt, "memory");
+    assert!(rt; keep_all(rt, &mut resume, &[5; 80], 100_000));
+    acknowledge_half(&mut resume, 100_000);
+    assert!(rt; are_odd(&resume));
+    assert!(rt; resume.peers() == 1);
+    assert!(rt; resume.count(0) == 50_000);
+    assert!(rt; resume.bytes(0) == 4_000_000);
+    resume.make_room(0, MOST_BYTES - 80);
+    assert!(rt; resume.peers() == 1);
+    assert!(rt; resume.count(0) == 1);
+    assert!(rt; resume.waiting(0, 0).is_some_and(|kept| kept.seq == 99_999));
+}
+
+// The greatest number may be kept, and others behind it.
+#[test]
+fn others_come_behind_the_greatest_number(rt: HostRuntime) {
+    let mut resume = Resume::new(rt.alloc(), 1).expect(&rt, "memory");
+    for seq in [u64::MAX, 0, u64::MAX] {
+        assert!(rt; resume.peers() == 1);
+        assert!(rt; resume.keep(rt.alloc(), 0, seq, &[1; 50]).is_ok());
+    }
+    assert!(rt; resume.peers() == 1);
+    resume.acked(0, u64::MAX);
+    assert!(rt; resume.count(0) == 1);
+    assert!(rt; resume.waiting(0, 0).is_some_and(|kept| kept.seq == 0));
+}
