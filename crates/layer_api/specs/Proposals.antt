@@ -30,7 +30,8 @@ SomeProposed is_correct proposed x v = (k : ℕ) × (is_correct k ≡ true) × p
 
 -- What is decided comes from proposals of correct replicas: one of them proposed a bit that is decided, and one of them a value; and
 -- in a vector that is decided the entry of each of them is what it proposed.
-pub record IsProposed (is_correct : ℕ → Bool) (proposed : Proposal) (decided : Instance → Option Decision) : Type 0 where
+pub record IsProposed (is_correct : ℕ → Bool) (proposed : Proposal) (decided : Instance → Option Decision)
+    : Type 0 where
   pub bits : (a attempt : ℕ) (b : Bool) → decided (OfBit a attempt) ≡ Some (Bit b)
       → SomeProposed is_correct proposed (OfBit a attempt) (bit_byte b ∷ [])
   pub values : (a attempt : ℕ) (v : List ℕ) → decided (OfValue a attempt) ≡ Some (Value v)
@@ -45,13 +46,15 @@ backers lists x = count_by (λ list. has_id (ids_of list) x) lists
 -- A round appends to the identifier log what stands in f + 1 or more entries of its vector, and isn't in the log yet. So an
 -- identifier was appended by a round that is complete, where it stands in so many entries of this round's vector, and of no vector
 -- of an earlier round; and some correct replica proposed in that round a list that has it.
-pub record IsAppended (f : ℕ) (is_correct : ℕ → Bool) (proposed : Proposal) (decided : Instance → Option Decision) (completed : ℕ) (x : Id) : Type 0 where
+pub record IsAppended (f : ℕ) (is_correct : ℕ → Bool) (proposed : Proposal) (decided : Instance → Option Decision)
+    (completed : ℕ) (x : Id) : Type 0 where
   pub round : ℕ
   pub vector : List ℕ
   pub complete : round < completed
   pub decides : decided (OfVector round) ≡ Some (Value vector)
   pub backed : f + 1 ≤ backers (vector_entries vector) x
-  pub first : (a : ℕ) → a < round → (v : List ℕ) × (decided (OfVector a) ≡ Some (Value v)) × (backers (vector_entries v) x ≤ f)
+  pub first : (a : ℕ) → a < round
+      → (v : List ℕ) × (decided (OfVector a) ≡ Some (Value v)) × (backers (vector_entries v) x ≤ f)
   pub who : ℕ
   pub list : List ℕ
   pub correct : is_correct who ≡ true
