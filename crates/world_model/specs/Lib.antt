@@ -11,6 +11,7 @@ pub mod Stopped
 pub mod EveryWorld
 pub mod Needs
 pub mod Stands
+pub mod BetweenLaws
 pub mod Steps
 pub mod Met
 pub mod Hashed

@@ -16,7 +16,7 @@ use Rattle.ritas_base.specs.declared.mode.Vect.TheVariants.{Reliable}
 use Rattle.ritas_base.specs.declared.mode.FrameVersion.TheVariants.{One, Two}
 use Rattle.layer_api.specs.Entries.{EntryInput, OfMessage, OfEntry}
 use Rattle.layer_api.specs.Service.{ServiceRules, Undecided, IsPart}
-use Rattle.command_log.specs.Rows.{Row, command_rows}
+use Rattle.command_log.specs.Rows.{count_origins, Row, command_rows}
 use Rattle.keyed_channel.specs.Frames.{sealed}
 use Rattle.keyed_channel.specs.declared.frame.OpenFault.TheVariants.{Short}
 use Rattle.reliable_bcast.specs.Bracha.{bracha}
@@ -228,6 +228,7 @@ abbrev by_all : Id → Option (List ℕ)
 by_all x = Some command
 
 one_row : command_rows 1 by_all (record { origin = 1; num = 0 } ∷ record { origin = 2; num = 0 } ∷ record { origin = 3; num = 0 } ∷ []) ≡ row_from 2 ∷ []
+unfolding count_origins
 one_row = refl
 
 -- one log is a prefix of another that has a row more

@@ -1,5 +1,5 @@
 -- What the value of a world stands for, and what an event does to it.
-use Rattle.std.specs.Prelude.{◌≡◌, ℕ, ◌<◌, ◌==◌, ◌&&◌, Bool, true, false, not, List, [], ◌∷◌, length, filter, reverse, Option, Some, None, Result, Ok, Err, ◌⊎◌, if◌then◌else◌}
+use Rattle.std.specs.Prelude.{◌≡◌, ℕ, ◌<◌, ◌==◌, ◌&&◌, nat_lt, Bool, true, false, not, List, [], ◌∷◌, length, filter, reverse, Option, Some, None, Result, Ok, Err, ◌⊎◌, if◌then◌else◌}
 use Rattle.std.specs.List.{slice_get}
 use Rattle.ritas_base.specs.declared.bytes.Mem.{Mem}
 use Rattle.ritas_base.specs.declared.event.Event.{Event}
@@ -101,6 +101,10 @@ AreMembers m w states here = AreInOrder w (λ i rep. IsReplica m w states i rep)
 abbrev pub frames_from : Setting → (ℕ → CoreState) → ℕ → ℕ → List (List ℕ)
 frames_from w states i j =
     if w.is_correct i && not (i == j) then reverse (made_for (rules_at w i) (w.keys i) (states i).history j) else []
+
+-- none were made for a number that no replica has
+abbrev pub frames_between : Setting → (ℕ → CoreState) → ℕ → ℕ → List (List ℕ)
+frames_between w states i j = if nat_lt j w.numbers.n then frames_from w states i j else []
 
 pub record FramesStand (w : Setting) (states : ℕ → CoreState) (t : MadeTable) : Type 0 where
   pub square : IsSquare t w.numbers.n

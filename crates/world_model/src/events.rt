@@ -112,8 +112,7 @@ fn turn_comes<S: Service, E: Broadcast, C: Coin + Drop>(
     })
 }
 
-// A frame comes to a replica from the one that made it for it, so it doesn't forge. The code computes no tag where the two share their key; no
-// clause says so.
+// A frame comes to a replica from the one that made it for it, so it doesn't forge.
 fn made_comes<S: Service, E: Broadcast, C: Coin + Drop>(
     alloc: Global,
     seats: &Seats,

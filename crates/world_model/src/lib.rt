@@ -23,12 +23,12 @@
 //! correct replicas and faces that run a replica's code with a faulty replica's keys, forge nothing (`forges_nothing`).
 //!
 //! That nothing is forged or collides is no part of what is proved: it is what the keyed tags and the hash are for. The
-//! audit finds a forged frame by its number, in the time of one comparison. A frame that passes was made by its sender: where
-//! the receiver shares its key, it is known to open and to forge nothing. The code computes no tag there; no clause says so. At each SEND that is taken
-//! the audit makes the entries that the replica gives and expects, where no other has made them, and keeps them: the rows of a
-//! column are compared with these. Each different value is hashed once, and found by its bytes where it is taken again. The audit
-//! looks in tables of what was sent and hashed, so its work at an event doesn't grow with the schedule, but for the depth of
-//! these tables.
+//! audit finds a forged frame by its number, in the time of one comparison. A frame that passes was made by its sender, so it
+//! forges nothing. It is opened as it was made, without its bytes; no clause says how much is hashed for that. At each SEND
+//! that is taken the audit makes the entries that the replica gives and expects, where no other has made them, and keeps them:
+//! the rows of a column are compared with these. Each different value is hashed once, and found by its bytes where it is taken
+//! again. The audit looks in tables of what was sent and hashed, so its work at an event doesn't grow with the schedule, but
+//! for the depth of these tables.
 #![tactic(auto)]
 
 mod audit;

@@ -42,7 +42,7 @@ impl<S: Service, E: Broadcast, C: Coin + Drop> World<S, E, C> {
     ghost use Rattle.world_model.specs.Audit.{audit_of};
     ghost use Rattle.world_model.specs.Agree.{Agree};
     ghost use Rattle.world_model.specs.Needs.{EventNeeds};
-    ghost use Rattle.world_model.specs.Stands.{AreKeys, AreOfVersion, IsWorldOf, IsReplica, AreMembers, AreMembersLeft, frames_from, WorldStands, IsLeft, WorldStopped, is_world_live, EventDoes};
+    ghost use Rattle.world_model.specs.Stands.{AreKeys, AreOfVersion, IsWorldOf, IsReplica, AreMembers, AreMembersLeft, frames_between, WorldStands, IsLeft, WorldStopped, is_world_live, EventDoes};
     ghost use Rattle.ritas_base.specs.Events.{MayHappen};
 
     /// The world of these numbers, mode, correct replicas, and keys and coins of each replica, before any event. The keys
@@ -209,15 +209,19 @@ impl<S: Service, E: Broadcast, C: Coin + Drop> World<S, E, C> {
     }
 
     /// The frames that one replica made for another, the oldest first. A faulty one made none, and none makes frames for
-    /// itself. The tag of each is computed once its bytes are asked for.
+    /// itself. From or for a number that no replica has there are none. The tag of each is computed once its bytes are asked
+    /// for.
     pub fn frames_made(&self, from: u8, to: u8) -> &[LazyFrame]
         ensures is { (w : Setting) (es : List Event)
             → WorldStands (meaning S.stands S.rules S.shown E.stands E.rules E.shown C.bits (λ k. k.me) tags_of) self.now w es
-            → from < w.numbers.n → to < w.numbers.n → result.now ≡ frames_from w (states_of w es) from to }
+            → result.now ≡ frames_between w (states_of w es) from to }
         ensures stopped { (w : Setting) (es : List Event) (e : Event)
             → WorldStopped (meaning S.stands S.rules S.shown E.stands E.rules E.shown C.bits (λ k. k.me) tags_of) self.now w es e
-            → from < w.numbers.n → to < w.numbers.n → result.now ≡ frames_from w (states_of w es) from to }
+            → result.now ≡ frames_between w (states_of w es) from to }
     {
+        if to >= self.seats.params.n() {
+            return &[];
+        }
         self.made.frames(from, to)
     }
 
