@@ -54,7 +54,7 @@ fn main(rt: HostRuntime) -> ExitCode {
     };
     let mut input = FromRead::new(rt.reader());
     let mut output = ToWrite::new(io::writer(&rt));
-    let mut link = TcpLink::new(rt.alloc());
+    let mut link = TcpLink::with_clock(rt.alloc(), rt);
     let mut disk = FileDisk::new(rt);
     let status = run(
         &rt,

@@ -56,6 +56,18 @@ abbrev pub numbered_after : Entry → ℕ → ℕ
 numbered_after (entries.Replicas at) numbered = numbered
 numbered_after (entries.Clients at) numbered = numbered + 1
 
+-- one that came in is let in, where so many clients were numbered, so many are there, and all spare descriptors or not
+abbrev pub is_let_in : Entry → ℕ → ℕ → Bool → Bool
+is_let_in entry numbered there has_spares = admits_one_more entry numbered && has_client_room entry there has_spares
+
+-- then it is with this one, and else it is closed
+abbrev pub whom_let_in : Entry → ℕ → ℕ → Bool → Option Whom
+whom_let_in entry numbered there has_spares = if is_let_in entry numbered there has_spares then Some (whom_at entry numbered) else None
+
+-- and so many clients are numbered
+abbrev pub numbered_let_in : Entry → ℕ → ℕ → Bool → ℕ
+numbered_let_in entry numbered there has_spares = if is_let_in entry numbered there has_spares then numbered_after entry numbered else numbered
+
 -- ---- pieces
 
 -- the most bytes of a piece: nothing is given of one that has no name yet

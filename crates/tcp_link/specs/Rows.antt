@@ -6,7 +6,7 @@ use Rattle.tcp_link.specs.Outcomes.{moved_at, reads_on, change_seen, nobody_at}
 use Rattle.tcp_link.specs.Queues.{Queue, empty_queue, next_of, without_next, with_frame_last, with_frame_first, with_message, in_turn}
 use Rattle.tcp_link.specs.Stages.{first_stage, stage_after, is_read, is_written}
 use Rattle.tcp_link.specs.Tokens.{token_of, serial_after, connection_place, ends_of_all, spares_for, replica_count}
-use Rattle.tcp_link.specs.Waits.{first_clock, after_waits, after_work, retry_due_microseconds, look_due_microseconds}
+use Rattle.tcp_link.specs.Waits.{WaitEnd, first_clock, after_wait, after_waits, after_work, retry_due_microseconds, look_due_microseconds}
 use Rattle.tcp_link.specs.Sides.{most_looks, looked, piece_kept, side_read}
 use Rattle.outside.specs.declared.link.LinkItem.TheVariants.{Frame}
 use Rattle.std.specs.declared.io.ErrorKind.TheVariants.{WouldBlock, Interrupted, ConnectionAborted, ConnectionReset}
@@ -231,19 +231,39 @@ due_at_first : retry_due_microseconds first_clock ≡ 100000
 due_at_first = refl
 
 -- quiet waits have 1, 2, 4, 8, 16, 32 and 32 thousands of microseconds: seven are too few, and the eighth is enough
-after_seven : after_waits first_clock (replicate 7 true) ≡ record { counted_microseconds = 95000; wait_microseconds = 32000 }
+abbrev quiet : WaitEnd
+quiet = record { is_quiet = true; shown = None }
+
+after_seven : after_waits first_clock (replicate 7 quiet) ≡ record { counted_microseconds = 95000; wait_microseconds = 32000; shown_microseconds = None }
 after_seven = refl
 
-after_eight : after_waits first_clock (replicate 8 true) ≡ record { counted_microseconds = 127000; wait_microseconds = 32000 }
+after_eight : after_waits first_clock (replicate 8 quiet) ≡ record { counted_microseconds = 127000; wait_microseconds = 32000; shown_microseconds = None }
 after_eight = refl
 
 -- an event makes waits short again
-after_an_event : after_waits first_clock (true ∷ true ∷ false ∷ []) ≡ record { counted_microseconds = 3050; wait_microseconds = 1000 }
+abbrev by_event : WaitEnd
+by_event = record { is_quiet = false; shown = None }
+
+after_an_event : after_waits first_clock (quiet ∷ quiet ∷ by_event ∷ []) ≡ record { counted_microseconds = 3050; wait_microseconds = 1000; shown_microseconds = None }
 after_an_event = refl
 
 -- what is done counts as an event does, and makes no wait short
-after_one_thing : after_work (record { counted_microseconds = 95000; wait_microseconds = 32000 }) ≡ record { counted_microseconds = 95050; wait_microseconds = 32000 }
+after_one_thing : after_work (record { counted_microseconds = 95000; wait_microseconds = 32000; shown_microseconds = None }) ≡ record { counted_microseconds = 95050; wait_microseconds = 32000; shown_microseconds = None }
 after_one_thing = refl
+
+-- with a clock what it shows is counted, and what is done counts nothing beside; the first reading of all tells nothing yet
+read_twice : after_waits first_clock (record { is_quiet = false; shown = Some 700 } ∷ record { is_quiet = true; shown = Some 2700 } ∷ []) ≡ record { counted_microseconds = 2050; wait_microseconds = 2000; shown_microseconds = Some 2700 }
+read_twice = refl
+
+after_one_shown : after_work (record { counted_microseconds = 95000; wait_microseconds = 32000; shown_microseconds = Some 8 }) ≡ record { counted_microseconds = 95000; wait_microseconds = 32000; shown_microseconds = Some 8 }
+after_one_shown = refl
+
+-- a clock that went back counts nothing, and one that can't be read leaves it to be guessed
+went_back : (after_wait (record { counted_microseconds = 9; wait_microseconds = 1000; shown_microseconds = Some 8 }) true (Some 5)).counted_microseconds ≡ 9
+went_back = refl
+
+unread : (after_wait (record { counted_microseconds = 9; wait_microseconds = 1000; shown_microseconds = Some 8 }) true None).counted_microseconds ≡ 1009
+unread = refl
 
 look_at_first : look_due_microseconds first_clock ≡ 5000000
 look_at_first = refl

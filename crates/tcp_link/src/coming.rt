@@ -80,7 +80,8 @@ impl Sockets {
         }
     }
 
-    // Adds a connection that came in. It is closed where there is no room for it, or it can't be watched.
+    // Adds a connection that came in, if it is let in, which `Entry::let_in` decides. It is closed where it isn't, or can't be watched:
+    // so `clients_have_a_cap` and `few_descriptors` of `cases/link` show.
     fn enter(
         &mut self,
         alloc: Global,
@@ -89,11 +90,10 @@ impl Sockets {
         stream: TcpStream,
     ) -> Result<(), Mem> {
         let has_spares = self.spares.are_all();
-        if !entry.admits(self.clients) || !entry.has_room(self.conns.clients_there(), has_spares) {
+        let there = self.conns.clients_there();
+        let Some(whom) = entry.let_in(&mut self.clients, there, has_spares) else {
             return Ok(());
-        }
-        let whom = entry.whom(self.clients);
-        self.clients = entry.numbered_after(self.clients);
+        };
         let Some(token) = self.conns.next_token() else {
             return Ok(());
         };

@@ -1,5 +1,10 @@
 //! Connections that are replaced, read to their end, and closed.
 
+ghost use Rattle.std.specs.Prelude.{◌≡◌, ◌++◌, OnOk};
+ghost use Rattle.tcp_link.specs.Names.{dial_again, told_at_end};
+ghost use Rattle.tcp_link.specs.Queues.{with_told};
+ghost use Rattle.tcp_link.specs.Waits.{redial};
+
 use crate::conn::Conn;
 use crate::retries::Retry;
 use crate::sockets::Sockets;
@@ -82,8 +87,12 @@ impl Sockets {
         self.settle(token)
     }
 
-    // A connection that was taken out is closed, and told of.
-    fn close(&mut self, conn: Conn) -> Result<(), Mem> {
+    // A connection that was taken out is closed, and told of, and its dial comes again.
+    fn close(&mut self, conn: Conn) -> Result<(), Mem>
+        ensures told { OnOk result (self.new.agenda ≡ with_told self.old.agenda (told_at_end conn.side.stage conn.side.has_given conn.side.whom)) }
+        ensures again { OnOk result (self.new.retries.waiting.items
+            ≡ self.old.retries.waiting.items ++ redial self.old.retries.clock (dial_again self.old.is_client conn.side.dial)) }
+    {
         if let Some(newer) = conn.side.newer {
             self.release(newer)?;
         }
@@ -92,7 +101,11 @@ impl Sockets {
     }
 
     // A connection waits for no older one any more, and is read.
-    fn release(&mut self, token: usize) -> Result<(), Mem> {
+    fn release(&mut self, token: usize) -> Result<(), Mem>
+        ensures agenda { self.new.agenda ≡ self.old.agenda }
+        ensures retries { self.new.retries ≡ self.old.retries }
+        ensures plan { self.new.is_client ≡ self.old.is_client }
+    {
         let Some(conn) = self.conns.get_mut(token) else {
             // It is gone.
             return Ok(());

@@ -1,7 +1,7 @@
 //! Who comes in by a door.
 
 ghost use Rattle.std.specs.Prelude.{◌≡◌, true};
-ghost use Rattle.tcp_link.specs.Names.{admits_one_more, has_client_room, whom_at, numbered_after};
+ghost use Rattle.tcp_link.specs.Names.{admits_one_more, has_client_room, whom_at, numbered_after, whom_let_in, numbered_let_in};
 
 use crate::limits::{CLIENTS_A_TURN, MOST_AT_ONCE, MOST_CLIENTS, REPLICAS_A_TURN};
 use crate::whom::Whom;
@@ -34,8 +34,8 @@ impl Entry {
         }
     }
 
-    /// Whether there is room for one that came in, where so many clients are there, and all spare descriptors or not.
-    pub(crate) fn has_room(self, there: usize, has_spares: bool) -> bool
+    // Whether there is room for one that came in, where so many clients are there, and all spare descriptors or not.
+    fn has_room(self, there: usize, has_spares: bool) -> bool
         ensures { result ≡ has_client_room self there has_spares }
     {
         match self {
@@ -52,8 +52,8 @@ impl Entry {
         }
     }
 
-    /// Whom the connection is with that came in, where so many clients were numbered.
-    pub(crate) fn whom(self, numbered: u32) -> Whom
+    // Whom the connection is with that came in, where so many clients were numbered.
+    fn whom(self, numbered: u32) -> Whom
         ensures { result ≡ whom_at self numbered }
     {
         match self {
@@ -62,8 +62,8 @@ impl Entry {
         }
     }
 
-    /// How many clients are numbered then.
-    pub(crate) fn numbered_after(self, numbered: u32) -> u32
+    // How many clients are numbered then.
+    fn numbered_after(self, numbered: u32) -> u32
         requires { admits_one_more self numbered ≡ true }
         ensures { result ≡ numbered_after self numbered }
     {
@@ -71,5 +71,19 @@ impl Entry {
             Entry::Replicas { at: _ } => numbered,
             Entry::Clients { at: _ } => numbered + 1,
         }
+    }
+
+    /// Lets one in that came, if one more may come in and there is room for it: then it is told whom the connection is with, and a
+    /// client is numbered.
+    pub(crate) fn let_in(self, numbered: &mut u32, there: usize, has_spares: bool) -> Option<Whom>
+        ensures whom { result ≡ whom_let_in self numbered.old there has_spares }
+        ensures numbered { numbered.new ≡ numbered_let_in self numbered.old there has_spares }
+    {
+        if !self.admits(*numbered) || !self.has_room(there, has_spares) {
+            return None;
+        }
+        let whom = self.whom(*numbered);
+        *numbered = self.numbered_after(*numbered);
+        Some(whom)
     }
 }

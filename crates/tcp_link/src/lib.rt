@@ -4,7 +4,8 @@
 //! pieces: a length of two bytes, the greater first, and so many bytes. A piece is a frame, of at most 16,384 bytes (`longest_frame`). A client
 //! connects to a node's address for clients, where both sides write pieces of at most 65,535 bytes from the beginning.
 //!
-//! A peer that was sent something and of which then nothing comes for a minute is taken for gone.
+//! A peer that was sent something and of which then nothing comes for a minute is taken for gone. The time that passes is what a clock
+//! shows that is read once a turn, or else it is counted by what the link does.
 //!
 //! News comes first: that a peer has a connection, that a peer or a node has none any more, or that a client left. The one that began
 //! a connection between replicas begins it again after a pause. One that takes no more bytes, or in whose place a newer one stands, is
@@ -33,6 +34,7 @@ mod outcome;
 mod output;
 mod pieces;
 mod readers;
+mod reading;
 mod retries;
 mod running;
 mod sending;
@@ -49,3 +51,4 @@ mod whom;
 pub use laws::{gives_in_order, over_stays, pause_ends, tokens_are_apart};
 pub use limits::limits_are;
 pub use link::TcpLink;
+pub use reading::NoClock;

@@ -6,6 +6,7 @@ ghost use Rattle.outside.specs.Links.{bytes_of, faults_after};
 ghost use Rattle.tcp_link.specs.Outcomes.{link_fault_of};
 
 use crate::limits::LONGEST_PIECE;
+use crate::reading::NoClock;
 use crate::running::Running;
 use crate::starting::started;
 use crate::trouble::Trouble;
@@ -13,6 +14,7 @@ use outside::{FaultCounts, Link, LinkFault, LinkItem, LinkPlan};
 use ritas_base::Mem;
 use std::alloc::Global;
 use std::net::Net;
+use std::rt::Clock;
 use std::sync::Wait;
 
 /// A link over TCP. It isn't told what it gave and what it was given.
@@ -20,18 +22,32 @@ use std::sync::Wait;
 /// Addresses are texts as `127.0.0.1:8080`, of at most 31 replicas or nodes; further ones are left out. `Failed` is answered where
 /// a node's number is none of theirs, a listener can't be made, as for want of its address, or the poll fails. Until it is started it gives `End`.
 /// `next_now` reads nothing: it gives what is left of what `next` read, of each client at most one message until `next` reads again.
+///
+/// After what time something is tried again or given up is told by its clock, which is read once a turn. Without one, its time is
+/// guessed by what it does: under load it may then run several times too fast or too slow.
 #[derive(Drop)]
-pub struct TcpLink {
+pub struct TcpLink<C: Clock = NoClock> {
+    clock: C,
     running: Option<Running>,
     faults: FaultCounts,
 }
 
-impl TcpLink {
-    /// A link that wasn't started.
-    pub fn new(_alloc: Global) -> TcpLink
+impl TcpLink<NoClock> {
+    /// A link with no clock, which wasn't started.
+    pub fn new(alloc: Global) -> TcpLink
+        ensures { result.faults ≡ record { failed = 0; short = 0 } }
+    {
+        TcpLink::with_clock(alloc, NoClock)
+    }
+}
+
+impl<C: Clock + Drop> TcpLink<C> {
+    /// A link with this clock, which wasn't started.
+    pub fn with_clock(_alloc: Global, clock: C) -> TcpLink<C>
         ensures { result.faults ≡ record { failed = 0; short = 0 } }
     {
         TcpLink {
+            clock,
             running: None,
             faults: FaultCounts::new(),
         }
@@ -76,14 +92,14 @@ impl TcpLink {
         if running.sockets.is_at_end() {
             return Ok(Some(LinkItem::End));
         }
-        match running.turn(rt, alloc) {
+        match running.turn(rt, alloc, &self.clock) {
             Ok(()) => Ok(None),
             Err(trouble) => Err(self.fault(trouble)),
         }
     }
 }
 
-impl Link for TcpLink {
+impl<C: Clock + Drop> Link for TcpLink<C> {
     ghost tells = { false };
 
     ghost told = { λ _. [] };
@@ -99,7 +115,7 @@ impl Link for TcpLink {
         ensures cause { HasCause self.old.faults.failed self.new.faults.failed (result ≡ Err LinkFault.Failed) }
         ensures count { self.new.faults ≡ faults_after self.old.faults result }
     {
-        match started(rt, alloc, plan) {
+        match started(rt, alloc, plan, &self.clock) {
             Ok(running) => {
                 self.running = Some(running);
                 Ok(())

@@ -1,9 +1,10 @@
 //! Connections are looked at every five seconds.
 
-ghost use Rattle.std.specs.Prelude.{◌≡◌, ◌≤◌, IfSome, OnOk, if◌then◌else◌};
+ghost use Rattle.std.specs.Prelude.{◌≡◌, ◌≤◌, ◌++◌, IfSome, OnOk, if◌then◌else◌};
 ghost use Rattle.tcp_link.specs.Limits.{looks_of_peer};
 ghost use Rattle.tcp_link.specs.Stages.{is_half};
 ghost use Rattle.tcp_link.specs.Sides.{most_looks, looked, on_looks, is_at_rest, is_read_due, unread_taken};
+ghost use Rattle.tcp_link.specs.Waits.{look_again};
 
 use crate::limits::{
     LOOKS_OF_DIAL, LOOKS_OF_HALF_CLOSED, LOOKS_OF_NODE, LOOKS_OF_PEER, LOOKS_OF_STRANGER,
@@ -59,9 +60,9 @@ impl Side {
         Ok(())
     }
 
-    /// It is looked at, and ends if nothing came for long. Looks at a peer are counted from the first before which something was sent
-    /// to it.
-    pub(crate) fn look(&mut self)
+    // It is looked at, and ends if nothing came for long. Looks at a peer are counted from the first before which something was sent
+    // to it.
+    fn look(&mut self)
         ensures { self.new ≡ looked self.old }
     {
         let Some(most) = most_looks(self.stage, self.whom) else {
@@ -83,6 +84,20 @@ impl Side {
         }
     }
 
+    /// It is looked at, and in five seconds again, unless it ended or isn't to be looked at any more. The one error is want of memory.
+    pub(crate) fn look_once(&mut self, retries: &mut Retries, token: usize) -> Result<(), Mem>
+        ensures side { self.new ≡ looked self.old }
+        ensures again { OnOk result (retries.new.looks.items ≡ retries.old.looks.items ++ look_again retries.old.clock token (looked self.old).listed.looks) }
+        ensures waiting { retries.new.waiting ≡ retries.old.waiting }
+        ensures clock { retries.new.clock ≡ retries.old.clock }
+    {
+        self.look();
+        if self.listed.looks {
+            retries.look_at(token)?;
+        }
+        Ok(())
+    }
+
     /// Whether more is read of one that was fed, which is noted.
     pub(crate) fn take_unread(&mut self) -> bool
         ensures is { result ≡ is_read_due self.old }
@@ -95,16 +110,15 @@ impl Side {
 }
 
 impl Sockets {
-    /// Looks at a connection.
+    /// Looks at a connection, which is closed if it ended by that. What is decided of it is what `Side::look_once` says; that the
+    /// connection of the token is the one that is looked at is shown by `strangers_are_closed`, `a_stranger_in_a_crowd` and
+    /// `asked_and_silent` of `cases/link`.
     pub(crate) fn look(&mut self, token: usize) -> Result<(), Mem> {
         let Some(conn) = self.conns.get_mut(token) else {
             // It is gone.
             return Ok(());
         };
-        conn.side.look();
-        if conn.side.listed.looks {
-            self.retries.look_at(token)?;
-        }
+        conn.side.look_once(&mut self.retries, token)?;
         self.settle(token)
     }
 }

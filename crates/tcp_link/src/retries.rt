@@ -111,13 +111,13 @@ impl Retries {
         }
     }
 
-    /// A wait ended, quietly or by an event.
-    pub(crate) fn waited(&mut self, is_quiet: bool)
-        ensures clock { self.new.clock ≡ after_wait self.old.clock is_quiet }
+    /// A wait ended, quietly or by an event, and the system's clock shows this, if it can be read.
+    pub(crate) fn waited(&mut self, is_quiet: bool, shown_microseconds: Option<u64>)
+        ensures clock { self.new.clock ≡ after_wait self.old.clock is_quiet shown_microseconds }
         ensures waiting { self.new.waiting ≡ self.old.waiting }
         ensures looks { self.new.looks ≡ self.old.looks }
     {
-        self.clock = self.clock.after(is_quiet);
+        self.clock = self.clock.after(is_quiet, shown_microseconds);
     }
 
     /// One thing was done.

@@ -1,11 +1,16 @@
 //! A link that runs.
 
+ghost use Rattle.std.specs.Prelude.{◌≡◌, OnOk};
+ghost use Rattle.tcp_link.specs.Queues.{Queue, in_turn};
+
 use crate::limits::MOST_EVENTS;
+use crate::reading::shown_microseconds;
 use crate::sockets::Sockets;
 use crate::trouble::Trouble;
 use mio::{Events, Poll};
 use std::alloc::Global;
 use std::net::Net;
+use std::rt::Clock;
 use std::time::Duration;
 
 /// A link that runs: the poll, and its sockets.
@@ -31,30 +36,41 @@ impl Running {
         })
     }
 
-    // Waits for events, unless something is to be done before one comes, and takes note of them.
-    fn wait(&mut self) -> Result<(), Trouble> {
+    // Waits for events, unless something is to be done before one comes, and takes note of the time and of them.
+    fn wait<C: Clock>(&mut self, clock: &C) -> Result<(), Trouble> {
         let is_busy = self.sockets.is_busy();
         let wait_microseconds = self.sockets.retries.wait_microseconds(is_busy);
         let timeout = wait_microseconds.map(Duration::from_micros);
         self.poll.poll(&mut self.events, timeout)?;
         let is_quiet = !is_busy && self.events.is_empty();
-        self.sockets.retries.waited(is_quiet);
+        let shown = shown_microseconds(clock);
+        self.sockets.retries.waited(is_quiet, shown);
         for event in &self.events {
             self.sockets.note(event)?;
         }
         Ok(())
     }
 
-    /// Writes what waits, waits for events, and does what they ask for: first what peers need, and then some of what clients do.
-    pub(crate) fn turn<R: Net>(&mut self, rt: &R, alloc: Global) -> Result<(), Trouble> {
+    /// Writes what waits, waits for events, and does what they ask for: first what peers need, and then some of what clients do. What
+    /// is due comes once all peers were read, so that a connection isn't taken for silent where it was the node that stood still. What
+    /// is given then is a turn of what is to be given. That the sockets are served in this order is shown by `a_peer_resets`,
+    /// `a_peer_connects_again` and `fair_in_a_crowd` of `cases/link`.
+    pub(crate) fn turn<R: Net, C: Clock>(
+        &mut self,
+        rt: &R,
+        alloc: Global,
+        clock: &C,
+    ) -> Result<(), Trouble>
+        ensures { OnOk result ((q : Queue) × (self.new.sockets.agenda ≡ in_turn q)) }
+    {
         self.sockets.write_all()?;
-        self.wait()?;
+        self.wait(clock)?;
         let registry = self.poll.registry();
         self.sockets.write_all()?;
-        self.sockets.retry_all(rt, alloc, registry)?;
         self.sockets.spares.fill(rt)?;
         self.sockets.accept_all(alloc, registry)?;
         self.sockets.read_all()?;
+        self.sockets.retry_all(rt, alloc, registry)?;
         self.sockets.read_clients()?;
         self.sockets.agenda.begin_turn();
         Ok(())

@@ -12,6 +12,7 @@ use outside::LinkPlan;
 use ritas_base::{Mem, Texts};
 use std::alloc::Global;
 use std::net::Net;
+use std::rt::Clock;
 use std::sync::Wait;
 
 impl Running {
@@ -55,13 +56,18 @@ impl Running {
     }
 
     // Goes on until every two replicas are connected, as both of them know.
-    fn join<R: Net + Wait>(&mut self, rt: &R, alloc: Global) -> Result<(), Trouble> {
+    fn join<R: Net + Wait, C: Clock>(
+        &mut self,
+        rt: &R,
+        alloc: Global,
+        clock: &C,
+    ) -> Result<(), Trouble> {
         let wanted = ends_of_all(self.sockets.n);
         for _ in rt.forever() {
             if self.sockets.conns.peers_up() >= wanted {
                 return Ok(());
             }
-            self.turn(rt, alloc)?;
+            self.turn(rt, alloc, clock)?;
         }
         unreachable!()
     }
@@ -87,7 +93,12 @@ fn start_node<R: Net>(
 }
 
 // All replicas of a session.
-fn start_cluster<R: Net + Wait>(rt: &R, alloc: Global, peers: &Texts) -> Result<Running, Trouble> {
+fn start_cluster<R: Net + Wait, C: Clock>(
+    rt: &R,
+    alloc: Global,
+    peers: &Texts,
+    clock: &C,
+) -> Result<Running, Trouble> {
     let n = count_of(peers.len());
     let mut running = Running::new(rt, alloc, n, false)?;
     for at in 0..n {
@@ -96,7 +107,7 @@ fn start_cluster<R: Net + Wait>(rt: &R, alloc: Global, peers: &Texts) -> Result<
     for at in 0..n {
         running.reach_lesser(rt, alloc, at, peers)?;
     }
-    running.join(rt, alloc)?;
+    running.join(rt, alloc, clock)?;
     Ok(running)
 }
 
@@ -114,16 +125,17 @@ fn start_client<R: Net>(rt: &R, alloc: Global, nodes: &Texts) -> Result<Running,
 }
 
 /// The link of a plan.
-pub(crate) fn started<R: Net + Wait>(
+pub(crate) fn started<R: Net + Wait, C: Clock>(
     rt: &R,
     alloc: Global,
     plan: &LinkPlan,
+    clock: &C,
 ) -> Result<Running, Trouble> {
     match plan {
         LinkPlan::Node { me, peers, client } => {
             start_node(rt, alloc, *me, peers, client.as_slice())
         }
-        LinkPlan::Cluster { peers } => start_cluster(rt, alloc, peers),
+        LinkPlan::Cluster { peers } => start_cluster(rt, alloc, peers, clock),
         LinkPlan::Client { nodes } => start_client(rt, alloc, nodes),
     }
 }
