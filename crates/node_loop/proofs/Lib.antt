@@ -11,6 +11,7 @@ pub mod Alone
 pub mod Heres
 pub mod Entering
 pub mod Asking
+pub mod Indexing
 pub mod Busy
 pub mod Seating
 pub mod Rows

@@ -10,6 +10,7 @@ pub mod Told
 pub mod ToldRows
 pub mod Served
 pub mod PeersStanding
+pub mod WaitersStanding
 pub mod Standing
 pub mod Archives
 pub mod Meanings
