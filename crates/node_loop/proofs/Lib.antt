@@ -19,6 +19,7 @@ pub mod Comings
 pub mod Fitting
 pub mod Reopening
 pub mod Earning
+pub mod EarningRounds
 pub mod Keeping
 pub mod KeptEvents
 pub mod Keepers
