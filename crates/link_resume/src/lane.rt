@@ -6,11 +6,11 @@ ghost use Rattle.std.specs.List.{slice_get};
 ghost use Rattle.link_resume.specs.declared.kept.Kept.{Kept};
 ghost use Rattle.link_resume.specs.Lists.{bytes_in, most_kept_bytes, all_but, room_for};
 
-use crate::frames::Frames;
 use crate::kept::{KeepFault, Kept};
 use ritas_base::Bytes;
 use std::alloc::Global;
 use std::collections::BTreeMap;
+use std::collections::btree_map::Values;
 use std::marker::Model;
 
 /// The most bytes that are kept for one peer.
@@ -103,10 +103,10 @@ impl Lane {
     }
 
     /// All that are kept, the oldest first.
-    pub(crate) fn frames(&self) -> Frames<'_>
+    pub(crate) fn frames(&self) -> Values<'_, u128, Kept>
         ensures { result ≡ self.now }
     {
-        Frames::new(self.kept.values())
+        self.kept.values()
     }
 
     /// Keeps a copy of the frame behind the others.

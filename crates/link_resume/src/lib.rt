@@ -22,11 +22,9 @@
 //! frame is its number: whatever the order of acknowledgements, one takes steps in the logarithm of how many are kept.
 #![tactic(auto)]
 
-mod frames;
 mod kept;
 mod lane;
 mod resume;
 
-pub use frames::Frames;
 pub use kept::{KeepFault, Kept};
 pub use resume::Resume;

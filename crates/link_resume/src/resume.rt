@@ -4,11 +4,11 @@ ghost use Rattle.std.specs.Prelude.{◌≡◌, ℕ, ◌+◌, ◌<◌, ◌≤◌,
 ghost use Rattle.std.specs.List.{slice_get};
 ghost use Rattle.link_resume.specs.Lists.{kept_for, bytes_in, most_kept_bytes, with_frame_kept, with_room, without_number};
 
-use crate::frames::Frames;
 use crate::kept::{KeepFault, Kept};
 use crate::lane::Lane;
 use ritas_base::Mem;
 use std::alloc::Global;
+use std::collections::btree_map::Values;
 use std::marker::Model;
 
 /// Frames that are kept for each peer, the oldest first.
@@ -93,7 +93,7 @@ impl Resume {
     }
 
     /// All that is kept for a peer, the oldest first. It takes no memory.
-    pub fn frames(&self, peer: u8) -> Frames<'_>
+    pub fn frames(&self, peer: u8) -> Values<'_, u128, Kept>
         requires { peer < length self.now }
         ensures { result ≡ kept_for self.now peer }
     {

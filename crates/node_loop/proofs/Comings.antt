@@ -28,7 +28,8 @@ use Rattle.node_loop.specs.Resending.{Brought, nothing_more}
 use Rattle.node_loop.specs.Serving.{frames_made_by, sent_by}
 use Rattle.node_loop.specs.Served.{AreHere}
 use Rattle.node_loop.specs.Keeping.{is_kept}
-use Rattle.node_loop.specs.Standing.{IsWaiting, HouseStands, IsEmptyOutput, ComesOut, IsMore, frame_by, reply_by}
+use Rattle.node_loop.specs.Standing.{HouseStands, IsEmptyOutput, ComesOut, IsMore, frame_by, reply_by}
+use Rattle.node_loop.specs.WaitersStanding.{IsWaiting}
 use Rattle.node_loop.proofs.Heres.{nowhere}
 
 -- a correct replica stands at a place that has a number

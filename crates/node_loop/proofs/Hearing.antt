@@ -52,7 +52,8 @@ use Rattle.node_loop.specs.PeersStanding.{AreKept, IsKeeper}
 use Rattle.node_loop.specs.Resending.{Brought, nothing_more, mark_at, is_deferred, opened_so, noted_so, item_brings}
 use Rattle.node_loop.specs.Serving.{frames_made_by}
 use Rattle.node_loop.specs.Served.{AreHere}
-use Rattle.node_loop.specs.Standing.{IsWaiting, HouseStands, ComesOut, IsEmptyOutput, IsMore, is_answer_opened, reply_by}
+use Rattle.node_loop.specs.Standing.{HouseStands, ComesOut, IsEmptyOutput, IsMore, is_answer_opened, reply_by}
+use Rattle.node_loop.specs.WaitersStanding.{IsWaiting}
 use Rattle.node_loop.proofs.Alone.{alone_seen}
 use Rattle.node_loop.proofs.Comings.{right_at, is_none, nothing_comes}
 

@@ -11,6 +11,7 @@ pub mod Alone
 pub mod Heres
 pub mod Entering
 pub mod Asking
+pub mod Indexing
 pub mod Busy
 pub mod Seating
 pub mod Rows
@@ -18,6 +19,7 @@ pub mod Comings
 pub mod Fitting
 pub mod Reopening
 pub mod Earning
+pub mod EarningRounds
 pub mod Keeping
 pub mod KeptEvents
 pub mod Keepers

@@ -11,7 +11,7 @@ use Rattle.command_log.specs.Rows.{Row, row_at}
 use Rattle.node_loop.specs.declared.waiting.Waiters.{Waiters}
 use Rattle.node_loop.specs.Waiting.{Waiting, without_asked}
 use Rattle.node_loop.specs.Calls.{asked_by, waiting_left_by, replies_by, reply_each}
-use Rattle.node_loop.specs.Standing.{IsWaiting}
+use Rattle.node_loop.specs.WaitersStanding.{IsWaiting}
 
 -- the first so many rows
 abbrev pub first : List Row → ℕ → List Row

@@ -32,7 +32,8 @@ use Rattle.node_loop.specs.Deeds.{sends}
 use Rattle.node_loop.specs.Resending.{peers_due, due, asks_for_more}
 use Rattle.node_loop.specs.Serving.{here}
 use Rattle.node_loop.specs.Served.{AreHere}
-use Rattle.node_loop.specs.Standing.{HouseStands, IsWaiting, IsMore, is_before_other}
+use Rattle.node_loop.specs.Standing.{HouseStands, IsMore, is_before_other}
+use Rattle.node_loop.specs.WaitersStanding.{IsWaiting}
 use Rattle.node_loop.proofs.Busy.{Least, least_more}
 use Rattle.node_loop.proofs.Keepers.{pair_of}
 use Rattle.node_loop.proofs.Heres.{as_here}

@@ -10,6 +10,7 @@ pub mod Told
 pub mod ToldRows
 pub mod Served
 pub mod PeersStanding
+pub mod WaitersStanding
 pub mod Standing
 pub mod Archives
 pub mod Meanings
@@ -20,6 +21,7 @@ pub mod Servers
 pub mod Journals
 pub mod Recovering
 pub mod Laws
+pub mod EarnedRounds
 pub mod Keeping
 pub mod KeepingRows
 pub mod Rows

@@ -1,10 +1,6 @@
 -- What the values of serving stand for.
 use Rattle.std.specs.Prelude.{◌≡◌, ℕ, ◌<◌, Bool, true, false, nat_lt, List, [], ◌∷◌, length, map, Option, Some, None, Result, Ok, Err}
 use Rattle.std.specs.List.{slice_get}
-use Rattle.std.specs.declared.cmp.Ordering.{Ordering}
-use Rattle.std.specs.declared.vec.Vec.{Vec}
-use Rattle.std.specs.Ordering.{nat_cmp, then_cmp, on}
-use Rattle.std.specs.BTreeMap.{get}
 use Rattle.ritas_base.specs.declared.bytes.Mem.{Mem}
 use Rattle.ritas_base.specs.declared.event.Event.{Event}
 use Rattle.frame_codec.specs.declared.fault.BodyFault.TheVariants as body
@@ -18,8 +14,6 @@ use Rattle.replica.specs.Out.{OutFrame}
 use Rattle.replica.specs.declared.refusal.Refusal.{Refusal}
 use Rattle.replica.specs.declared.refusal.Refusal.TheVariants as refusals
 use Rattle.world_model.specs.World.{Setting}
-use Rattle.node_loop.specs.declared.waiting.Asked.{Asked}
-use Rattle.node_loop.specs.declared.waiting.Waiters.{Waiters}
 use Rattle.node_loop.specs.declared.output.More.{More}
 use Rattle.node_loop.specs.declared.output.More.TheVariants as mores
 use Rattle.node_loop.specs.declared.output.Output.{Output}
@@ -34,20 +28,8 @@ use Rattle.node_loop.specs.Resending.{Brought}
 use Rattle.node_loop.specs.Keeping.{has_kept}
 use Rattle.node_loop.specs.Serving.{frames_made_by, sent_by, onto}
 use Rattle.node_loop.specs.PeersStanding.{IsKeeper}
+use Rattle.node_loop.specs.WaitersStanding.{IsWaiting}
 use Rattle.node_loop.specs.Served.{AreHere}
-
--- ---- who waits
-
-abbrev pub asked_cmp : Asked → Asked → Ordering
-asked_cmp = then_cmp (on (λ a. a.at) nat_cmp) (then_cmp (on (λ a. a.client) nat_cmp) (on (λ a. a.request) nat_cmp))
-
-abbrev pub conns_in : {Z : Type 0} → Option (Vec (Option ℕ) Z) → List (Option ℕ)
-conns_in None = []
-conns_in (Some conns) = conns.items
-
--- these wait for each request
-abbrev pub IsWaiting : Waiters → Waiting → Type 0
-IsWaiting waiters ws = (a : Asked) → conns_in (get asked_cmp waiters.by_request a) ≡ ws a
 
 -- ---- the replicas and who waits at them
 

@@ -100,11 +100,7 @@ fn send_kept<R: Net + Wait, L: Link>(
     requires peer { peer < length resume.now }
     ensures sends { LinkTook L.Link (each_act (kept_by at peer) (kept_for resume.now peer)) link.old link.new result }
 {
-    for place in 0..resume.count(peer) {
-        let Some(kept) = resume.waiting(peer, place) else {
-            // There is no such place.
-            return Ok(());
-        };
+    for kept in resume.frames(peer) {
         link.send(rt, alloc, at, peer, kept.frame.as_slice())?;
     }
     Ok(())

@@ -3,7 +3,8 @@ ghost use Rattle.std.specs.Prelude.{◌≡◌, ◌++◌, ◌<◌, map, OnOk, Som
 ghost use Rattle.client_port.specs.Messages.{position_reply};
 ghost use Rattle.node_loop.specs.Waiting.{Waiting, without_asked};
 ghost use Rattle.node_loop.specs.Calls.{asked_by, waiting_left_by, replies_by, reply_each};
-ghost use Rattle.node_loop.specs.Standing.{IsWaiting, reply_by};
+ghost use Rattle.node_loop.specs.Standing.{reply_by};
+ghost use Rattle.node_loop.specs.WaitersStanding.{IsWaiting};
 
 use crate::output::Reply;
 use crate::waiting::{Asked, Waiters};

@@ -1,6 +1,7 @@
 //! What serving keeps to, whatever the link gives.
 ghost use Rattle.node_loop.specs.Laws.{OneRun, GroupsAreRounds, RoundsGrow, GroupsGrow, ActsAreDeeds, DeedsAreBehind, FramesAreMade, ResendsAreOpen};
 ghost use Rattle.node_loop.specs.Laws.{RecalledAreSent, RecalledAreOpen, AcksAreEarned, EventsFit, RepliesAreTrue, KeptMakes};
+ghost use Rattle.node_loop.specs.EarnedRounds.{AcksAreOfRounds};
 ghost use Rattle.node_loop.specs.Keeping.{KeptStands, KeptIsShort};
 
 use layer_api::{Broadcast, Service};
@@ -54,11 +55,12 @@ pub fn recalled_are_sent()
 {}
 
 /// An acknowledgement goes out only after a frame of that peer with that number opened, and was answered otherwise than that it is to come
-/// again.
+/// again. It is of the very round that took this frame, and stands right behind the frames of its call.
 ///
 /// It does nothing: its contract is the law.
 pub fn acks_are_earned()
     ensures earned { AcksAreEarned }
+    ensures rounds { AcksAreOfRounds }
 {}
 
 /// The events are at the replicas that are served, and have at most 65,535 bytes: so they may stand in a schedule file.

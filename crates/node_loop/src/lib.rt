@@ -17,6 +17,7 @@ mod end;
 mod enter;
 mod group;
 mod house;
+mod index;
 mod laws;
 mod output;
 mod peers;

@@ -1,6 +1,7 @@
 //! What is kept for the peers of a replica until they acknowledge it, and who of them is to be asked to send again.
-ghost use Rattle.std.specs.Prelude.{◌≡◌, ℕ, ◌≤◌, ◌∷◌, List, [], length, replicate};
-ghost use Rattle.std.specs.Prelude.{slice_set, slice_index_or, true, Some, None, IfOk, OnOk, MatchOption};
+ghost use Rattle.std.specs.Prelude.{◌≡◌, ℕ, ◌+◌, ◌<◌, ◌≤◌, ◌∷◌, List, [], length, replicate};
+ghost use Rattle.std.specs.Prelude.{slice_set, slice_index_or, true, Some, None, IfOk, OnOk, OnErr, MatchOption};
+ghost use Rattle.link_resume.specs.Lists.{bytes_in, kept_for, most_kept_bytes};
 ghost use Rattle.ritas_base.specs.declared.event.Event.{Event};
 ghost use Rattle.keyed_channel.specs.Lengths.{head_length};
 ghost use Rattle.world_model.specs.World.{Setting, rules_at, states_of};
@@ -88,6 +89,9 @@ pub(crate) fn mark_of<S: Service, E: Broadcast, C: Coin + Drop>(
 pub(crate) fn keep(resume: &mut Resume, alloc: Global, peer: u8, frame: &[u8]) -> Result<(), Mem>
     ensures kept { (n i : ℕ) (p : Peers) → head_length ≤ length frame.now → AreKept n i resume.old p.keeping
         → OnOk result (AreKept n i resume.new (with_list i peer (keeps frame.now (p.keeping i peer)) p).keeping) }
+    // Memory may run out only where the frame is of a peer, and fits.
+    ensures err { OnErr result ((peer < length resume.old) × (head_length ≤ length frame.now)
+        × (bytes_in (kept_for resume.old peer) + length frame.now ≤ most_kept_bytes)) }
 {
     let Some(header) = frame_header(frame) else {
         return Ok(());

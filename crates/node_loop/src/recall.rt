@@ -8,7 +8,7 @@ ghost use Rattle.node_loop.specs.Peers.{Peers, with_list};
 ghost use Rattle.node_loop.specs.PeersStanding.{AreKept, made_as};
 ghost use Rattle.node_loop.specs.Recalling.{waits_again};
 ghost use Rattle.node_loop.specs.Recovering.{keep_newest, all_newest};
-ghost use Rattle.node_loop.specs.Standing.{IsWaiting};
+ghost use Rattle.node_loop.specs.WaitersStanding.{IsWaiting};
 ghost use Rattle.node_loop.specs.Waiting.{Waiting};
 
 use crate::asks::asked_in;

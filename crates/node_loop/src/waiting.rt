@@ -1,9 +1,13 @@
 //! Who waits for which request.
-ghost use Rattle.std.specs.Prelude.{◌≡◌, ◌==◌, not, Some, OnOk, if◌then◌else◌};
-ghost use Rattle.node_loop.specs.Waiting.{Waiting as waiting, nobody, is_conn, joined, with_waiter, without_conn, left_off, without_asked};
+ghost use Rattle.std.specs.Prelude.{◌≡◌, ◌∷◌, ◌++◌, [], not, Some, OnOk, if◌then◌else◌};
+ghost use Rattle.std.specs.BTreeMap.{get};
+ghost use Rattle.std.specs.List.{list_any};
+ghost use Rattle.node_loop.specs.declared.waiting.Asked.{Asked};
+ghost use Rattle.node_loop.specs.Waiting.{Waiting as waiting, nobody, is_conn, is_same_request, with_waiter, without_conn, left_off, without_asked};
 ghost use Rattle.node_loop.specs.Calls.{is_waited_for};
-ghost use Rattle.node_loop.specs.Standing.{IsWaiting};
+ghost use Rattle.node_loop.specs.WaitersStanding.{asked_cmp, conns_in, IsWaiting};
 
+use crate::index::{Caller, Index};
 use ritas_base::Mem;
 use std::alloc::Global;
 use std::collections::BTreeMap;
@@ -23,16 +27,8 @@ pub(crate) struct Asked {
 #[derive(Drop)]
 pub(crate) struct Waiters {
     by_request: BTreeMap<Asked, Vec<Option<u32>>>,
-}
-
-// A connection waits with these, if it doesn't already. The one error is want of memory.
-fn join(conns: &mut Vec<Option<u32>>, conn: Option<u32>) -> Result<(), Mem>
-    ensures joins { OnOk result (conns.new.items ≡ joined conn conns.old.items) }
-{
-    if !conns.contains(&conn) {
-        conns.push(conn)?;
-    }
-    Ok(())
+    // The requests of each connection.
+    index: Index,
 }
 
 // Whether one that waits is another than this connection.
@@ -58,15 +54,6 @@ fn leave(conns: &mut Vec<Option<u32>>, conn: u32)
     }
 }
 
-// It doesn't wait with these any more, if they wait for a request at its replica.
-fn leave_at(asked: Asked, conns: &mut Vec<Option<u32>>, at: u8, conn: u32)
-    ensures leaves { conns.new.items ≡ (if asked.at == at then without_conn conn conns.old.items else conns.old.items) }
-{
-    if asked.at == at {
-        leave(conns, conn);
-    }
-}
-
 impl Waiters {
     /// Nobody waits. It takes no memory.
     pub(crate) fn new(alloc: Global) -> Waiters
@@ -74,6 +61,7 @@ impl Waiters {
     {
         Waiters {
             by_request: BTreeMap::new(alloc),
+            index: Index::new(alloc),
         }
     }
 
@@ -87,12 +75,27 @@ impl Waiters {
         }
     }
 
-    /// One more waits, unless it waits already. The one error is want of memory.
-    pub(crate) fn push(&mut self, alloc: Global, asked: Asked, conn: Option<u32>) -> Result<(), Mem>
-        ensures waits { (ws : waiting) → IsWaiting self.old ws → OnOk result (IsWaiting self.new (with_waiter asked conn ws)) }
+    // Whether a connection waits for this request. One of none does only where it was the first to ask.
+    fn has_conn(&self, asked: Asked, conn: Option<u32>) -> bool
+        ensures waits { (ws : waiting) → IsWaiting self.now ws → result ≡ list_any (is_conn conn) (ws asked) }
+    {
+        let Some(conn) = conn else {
+            return match self.by_request.get(&asked) {
+                Some(conns) => conns.contains(&None),
+                None => false,
+            };
+        };
+        self.index.has(Caller { at: asked.at, conn }, asked)
+    }
+
+    // One more waits for a request, behind the others. The one error is want of memory.
+    fn put(&mut self, alloc: Global, asked: Asked, conn: Option<u32>) -> Result<(), Mem>
+        ensures puts { OnOk result ((a : Asked) → conns_in (get asked_cmp self.new.by_request a)
+            ≡ (if is_same_request asked a then conns_in (get asked_cmp self.old.by_request a) ++ conn ∷ [] else conns_in (get asked_cmp self.old.by_request a))) }
+        ensures index { self.new.index ≡ self.old.index }
     {
         match self.by_request.get_mut(&asked) {
-            Some(conns) => join(conns, conn)?,
+            Some(conns) => conns.push(conn)?,
             None => {
                 let mut conns = Vec::new(alloc);
                 conns.push(conn)?;
@@ -102,14 +105,41 @@ impl Waiters {
         Ok(())
     }
 
+    /// One more waits, unless it waits already. The one error is want of memory.
+    pub(crate) fn push(&mut self, alloc: Global, asked: Asked, conn: Option<u32>) -> Result<(), Mem>
+        ensures waits { (ws : waiting) → IsWaiting self.old ws → OnOk result (IsWaiting self.new (with_waiter asked conn ws)) }
+    {
+        if self.has_conn(asked, conn) {
+            return Ok(());
+        }
+        self.put(alloc, asked, conn)?;
+        match conn {
+            Some(conn) => self.index.add(alloc, Caller { at: asked.at, conn }, asked),
+            None => Ok(()),
+        }
+    }
+
     /// Those that wait for this request, who then don't wait any more.
     pub(crate) fn take(&mut self, alloc: Global, asked: Asked) -> Vec<Option<u32>>
         ensures those { (ws : waiting) → IsWaiting self.old ws → result.items ≡ ws asked }
         ensures rest { (ws : waiting) → IsWaiting self.old ws → IsWaiting self.new (without_asked asked ws) }
     {
-        match self.by_request.remove(&asked) {
+        let conns = match self.by_request.remove(&asked) {
             Some(conns) => conns,
             None => Vec::new(alloc),
+        };
+        self.index.remove_all(asked, conns.as_slice());
+        conns
+    }
+
+    // A connection doesn't wait for this request any more; what it asked for waits on.
+    fn leave_one(&mut self, asked: Asked, conn: u32)
+        ensures leaves { (a : Asked) → conns_in (get asked_cmp self.new.by_request a)
+            ≡ (if is_same_request asked a then without_conn conn (conns_in (get asked_cmp self.old.by_request a)) else conns_in (get asked_cmp self.old.by_request a)) }
+        ensures index { self.new.index ≡ self.old.index }
+    {
+        if let Some(conns) = self.by_request.get_mut(&asked) {
+            leave(conns, conn);
         }
     }
 
@@ -117,9 +147,10 @@ impl Waiters {
     pub(crate) fn leave(&mut self, at: u8, conn: u32)
         ensures leaves { (ws : waiting) → IsWaiting self.old ws → IsWaiting self.new (left_off at conn ws) }
     {
-        self.by_request.retain(move |asked, conns| {
-            leave_at(*asked, conns, at, conn);
-            true
-        });
+        let caller = Caller { at, conn };
+        while let Some(asked) = self.index.pop(caller) {
+            self.leave_one(asked, conn);
+        }
+        self.index.forget(caller);
     }
 }

@@ -3,7 +3,8 @@ use Rattle.std.specs.Option.{option_copied}
 use Rattle.node_loop.specs.declared.waiting.Waiters.{Waiters}
 use Rattle.node_loop.specs.Waiting.{Waiting, without_asked}
 use Rattle.node_loop.specs.Calls.{asked_by, waiting_left_by, replies_by}
-use Rattle.node_loop.specs.Standing.{IsWaiting, reply_by}
+use Rattle.node_loop.specs.Standing.{reply_by}
+use Rattle.node_loop.specs.WaitersStanding.{IsWaiting}
 use Rattle.node_loop.proofs.Rows.{first, starts, enters_more, no_row, all_first}
 use Rattle.node_loop.proofs.enter.enter_rows.Goals as goal
 use Rattle.node_loop.proofs.enter.enter_rows.Goals.{in-Some+in_ok-enter_row, in_default}

@@ -1,6 +1,7 @@
 use Rattle.std.proofs.Common.{map}
 use Rattle.node_loop.specs.Waiting.{Waiting}
-use Rattle.node_loop.specs.Standing.{IsWaiting, reply_by}
+use Rattle.node_loop.specs.Standing.{reply_by}
+use Rattle.node_loop.specs.WaitersStanding.{IsWaiting}
 use Rattle.node_loop.proofs.Rows.{Entered}
 use Rattle.node_loop.proofs.enter.enter_rows.Given as goal
 

@@ -3,7 +3,8 @@ use Rattle.std.proofs.lemmas.Result.{on_ok_weaker}
 use Rattle.command_log.specs.Rows.{Row}
 use Rattle.world_model.specs.Agree.{rows_at}
 use Rattle.node_loop.specs.Calls.{waiting_left_by, replies_by}
-use Rattle.node_loop.specs.Standing.{IsWaiting, reply_by}
+use Rattle.node_loop.specs.Standing.{reply_by}
+use Rattle.node_loop.specs.WaitersStanding.{IsWaiting}
 use Rattle.node_loop.proofs.Heres.{as_here, nowhere, read_at, log_at}
 use Rattle.node_loop.proofs.Comings.{wait_else}
 use Rattle.node_loop.proofs.house.House.enter.Goals as goal

@@ -7,7 +7,8 @@ use Rattle.world_model.specs.World.{seen_of}
 use Rattle.node_loop.specs.declared.waiting.Asked.{Asked}
 use Rattle.node_loop.specs.Waiting.{with_waiter}
 use Rattle.node_loop.specs.Calls.{event_called, asked_in, refusal_in, reply, refusal_replied, request_taken, submitted, submitted_so}
-use Rattle.node_loop.specs.Standing.{IsWaiting, reply_by}
+use Rattle.node_loop.specs.Standing.{reply_by}
+use Rattle.node_loop.specs.WaitersStanding.{IsWaiting}
 use Rattle.node_loop.specs.Keeping.{is_kept_so}
 use Rattle.node_loop.proofs.Comings.{right_at, given_stands, wait_else, quietly, came_quietly, replied_too, comes_as}
 use Rattle.node_loop.proofs.house.House.submit.Goals as goal
