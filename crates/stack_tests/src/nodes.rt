@@ -187,3 +187,47 @@ fn ends(rt: HostRuntime) -> Result<(), Fail> {
     assert!(rt; ended(&rt, rt.alloc(), b"", 0, &[], &[0])? == (ServeEnd::LinkFault, 4));
     Ok(())
 }
+
+// So many connections, each with this message.
+fn crowd(alloc: Global, many: u32, bytes: &[u8]) -> Result<Vec<LinkItem>, Mem>
+    requires { length bytes.now < 2 ^ 16 }
+    ensures { IfOk result (λ v. All IsShort v.items) }
+{
+    let mut items = Vec::new(alloc);
+    for conn in 0..many {
+        add(&mut items, alloc, 0, conn, bytes)?;
+    }
+    Ok(items)
+}
+
+// How it ends, and how many get a reply, where so many connections ask for one request.
+fn replied_of<R: Net + Wait + Abort>(
+    rt: &R,
+    alloc: Global,
+    many: u32,
+) -> Result<(ServeEnd, usize), Mem> {
+    let items = crowd(alloc, many, b"\x00\x00\x00\x07\x00\x00\x00\x01hi")?;
+    let first = Vec::new(alloc);
+    let mut link = MemLink::new(alloc, &items, &[])?;
+    let mut tape = MemSink::new(alloc, 100, &[])?;
+    let mut replicas = alone(rt, alloc)?;
+    let end = serve(
+        rt,
+        alloc,
+        &mut replicas,
+        &mut link,
+        &mut tape,
+        u64::from(many),
+        0,
+        &first,
+    );
+    Ok((end, link.replies().len()))
+}
+
+// Ten and a thousand connections ask for one request, and each gets a reply.
+#[test]
+fn each_is_replied(rt: HostRuntime) -> Result<(), Fail> {
+    assert!(rt; replied_of(&rt, rt.alloc(), 10)? == (ServeEnd::Limit, 10));
+    assert!(rt; replied_of(&rt, rt.alloc(), 1_000)? == (ServeEnd::Limit, 1_000));
+    Ok(())
+}

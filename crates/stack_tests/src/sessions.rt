@@ -66,8 +66,8 @@ fn cluster(rt: &impl Abort, alloc: Global) -> Result<ClusterConfig, Mem>
     })
 }
 
-// The one replica of a session, which is served until it has a row.
-fn node(rt: &impl Abort, alloc: Global, journal: bool) -> Result<NodeConfig, Mem>
+// The one replica of a session, which is served until it has so many rows.
+fn node(rt: &impl Abort, alloc: Global, journal: bool, until: u32) -> Result<NodeConfig, Mem>
     ensures { IfOk result (λ config. FitsNode (node_text config)) }
 {
     let p = Params::new(1, 0).expect(rt, "numbers");
@@ -81,7 +81,7 @@ fn node(rt: &impl Abort, alloc: Global, journal: bool) -> Result<NodeConfig, Mem
         peers: peers(alloc)?,
         client: Bytes::from_slice(alloc, b"127.0.0.1:8000")?,
         limit: 10,
-        until: 1,
+        until,
         journal,
     })
 }
@@ -116,7 +116,7 @@ fn serves_a_cluster(rt: HostRuntime) -> Result<(), Fail> {
 #[test]
 fn serves_a_node(rt: HostRuntime) -> Result<(), Fail> {
     let alloc = rt.alloc();
-    let config = node(&rt, alloc, false)?;
+    let config = node(&rt, alloc, false, 1)?;
     let mut link = asking(alloc)?;
     let mut output = MemSink::new(alloc, 200, &[])?;
     let mut disk = MemDisk::new(alloc, &[], 0, 0, &[])?;
@@ -134,12 +134,12 @@ fn comes_back(rt: HostRuntime) -> Result<(), Fail> {
     let mut disk = MemDisk::new(alloc, &[], 4_096, 100, &[])?;
     let mut link = asking(alloc)?;
     let mut output = MemSink::new(alloc, 200, &[])?;
-    let first = node(&rt, alloc, true)?;
+    let first = node(&rt, alloc, true, 1)?;
     let end = serve_node(&rt, alloc, first, &mut link, &mut output, &mut disk);
     assert!(rt; end == Ok(ServeEnd::Done));
     let mut next_link = MemLink::new(alloc, &[], &[])?;
     let mut next_output = MemSink::new(alloc, 200, &[])?;
-    let second = node(&rt, alloc, true)?;
+    let second = node(&rt, alloc, true, 1)?;
     let end = serve_node(
         &rt,
         alloc,
@@ -152,5 +152,48 @@ fn comes_back(rt: HostRuntime) -> Result<(), Fail> {
     assert_eq!(rt; next_output.taken(), output.taken());
     assert_eq!(rt; link.replies().len(), 1);
     assert!(rt; next_link.replies().is_empty());
+    Ok(())
+}
+
+// Ten requests of client 7.
+fn ten(alloc: Global) -> Result<Vec<LinkItem>, Mem>
+    ensures { IfOk result (λ items. All IsShort items.items) }
+{
+    let mut items = Vec::new(alloc);
+    for request in 0u8..10 {
+        let bytes = Bytes::from_slice(alloc, &[0, 0, 0, 7, 0, 0, 0, request, b'h', b'i'])?;
+        items.push(LinkItem::Client {
+            at: 0,
+            conn: 3,
+            bytes,
+        })?;
+    }
+    Ok(items)
+}
+
+// Ten requests and their turns, all of which are kept, are more than a group may have: the journal gives all of them again.
+#[test]
+fn a_whole_group_comes_back(rt: HostRuntime) -> Result<(), Fail> {
+    let alloc = rt.alloc();
+    let mut disk = MemDisk::new(alloc, &[], 16_384, 100, &[])?;
+    let mut link = MemLink::new(alloc, &ten(alloc)?, &[])?;
+    let mut output = MemSink::new(alloc, 2_000, &[])?;
+    let first = node(&rt, alloc, true, 10)?;
+    let end = serve_node(&rt, alloc, first, &mut link, &mut output, &mut disk);
+    assert!(rt; end == Ok(ServeEnd::Done));
+    assert_eq!(rt; link.replies().len(), 10);
+    let mut next_link = MemLink::new(alloc, &[], &[])?;
+    let mut next_output = MemSink::new(alloc, 2_000, &[])?;
+    let second = node(&rt, alloc, true, 10)?;
+    let end = serve_node(
+        &rt,
+        alloc,
+        second,
+        &mut next_link,
+        &mut next_output,
+        &mut disk,
+    );
+    assert!(rt; end == Ok(ServeEnd::Done));
+    assert_eq!(rt; next_output.taken(), output.taken());
     Ok(())
 }
