@@ -1,6 +1,6 @@
 """What tests play: nodes that keep a log among them, honest ones and such as lie, and a proxy that has a node's client hear lies.
 
-Nodes that are played take clients at ports of this machine and speak the messages of real ones, but a log that they share stands in for their protocol.
+Nodes that are played take clients at ports of this machine and speak the messages of real ones. A log that they share stands in for their protocol.
 """
 from __future__ import annotations
 

@@ -30,7 +30,8 @@ from collections.abc import Iterator, Sequence
 from types import TracebackType
 from typing import NamedTuple
 
-__all__ = ["Ahead", "Changed", "Cluster", "Follower", "Malformed", "Observer", "PieceFault", "QueriesRefused", "Refused", "RitasError", "Row", "TimedOut"]
+__all__ = ["Ahead", "Changed", "Cluster", "Follower", "Malformed", "Observer", "PieceFault", "QueriesRefused", "Refused", "RitasError", "Row",
+           "TimedOut"]
 
 MOST_NODES = 31
 MOST_PAYLOAD = 4088

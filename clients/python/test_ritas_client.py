@@ -1,6 +1,6 @@
 """Tests of `ritas_client`: `python3 -m unittest` in this folder.
 
-Most are over nodes that are played. Those over real ones run the repository's program (`RITAS` may name another one), and are skipped where it can't be
+Most are over nodes that are played. Those over real ones run the repository's program (`RITAS` may name another one). They are skipped if it can't be
 run, or doesn't answer queries yet.
 """
 from __future__ import annotations
