@@ -498,13 +498,17 @@ class Real(unittest.TestCase):
         if not self.are_new:
             self.skipTest("the program doesn't answer queries yet")
         heard = self.proxy.heard
-        for row in self.cluster.follow(timeout=SOON):
-            self.assertEqual(row[3:], (7, row.position, b"%d" % row.position))
-            if row.position + 1 == self.COUNT:
-                break
+        with self.cluster.follower() as follower:
+            for place in range(self.COUNT):
+                row = follower.next_row(SOON)
+                assert row is not None
+                self.assertEqual((row[0], *row[3:]), (place, 7, place, b"%d" % place))
+            until = time.monotonic() + SOON
+            while self.proxy.heard == heard:
+                self.assertIsNone(follower.next_row(0.05))
+                self.assertLess(time.monotonic(), until, "nobody hears the liar")
         position = self.cluster.submit(8, 0, b"one more")
         self.assertEqual(next(self.cluster.follow(position, timeout=SOON))[3:], (8, 0, b"one more"))
-        self.assertGreater(self.proxy.heard, heard)
 
     def test_3_old_nodes_are_told(self) -> None:
         if self.are_new:
