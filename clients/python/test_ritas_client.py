@@ -206,6 +206,15 @@ class Submitting(Played):
             _, _, cluster = self.play(*kinds)
             self.assertEqual([cluster.submit(7, request, b"hi") for request in range(8)], list(range(8)))
 
+    def test_the_first_reply_of_a_node_counts(self) -> None:
+        class Second(played.Node):
+            def request(self, link: socket.socket, message: bytes) -> None:
+                played.say(link, struct.pack(">B8sI", 1, message[:8], 77))
+                super().request(link, message)
+
+        _, _, cluster = self.play(Second, HONEST, played.Silent, played.Silent)
+        self.assertRaises(TimedOut, cluster.submit, 7, 1, b"hi", timeout=0.7)
+
     def test_two_liars_of_seven(self) -> None:
         _, _, cluster = self.play(*[played.LyingReplies] * 2, *[HONEST] * 5, f=2)
         self.assertEqual([cluster.submit(7, request, b"hi") for request in range(7)], list(range(7)))
