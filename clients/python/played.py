@@ -68,29 +68,34 @@ class Session:
     def __init__(self, f: int):
         self.f, self.lock = f, threading.RLock()
         self.rows: list[Row] = []
+        self.places: dict[bytes, int] = {}
         self.handed: dict[bytes, set[int]] = {}
         self.nodes: list[Node] = []
 
     def row_of(self, message: bytes) -> Row | None:
-        client, request = struct.unpack(">II", message[:8])
-        return next((row for row in self.rows if (row.client, row.request) == (client, request)), None)
+        """The row of a request's client and number."""
+        place = self.places.get(message[:8])
+        return None if place is None else self.rows[place]
 
     def hand(self, node: int, message: bytes) -> Row | None:
-        """Hands a request to a node, and answers its row where there is one now."""
+        """Hands a request to a node, and answers its row if there is one now."""
         with self.lock:
             givers = self.handed.setdefault(message, set())
             givers.add(node)
             if len(givers) > self.f and self.row_of(message) is None:
-                client, request = struct.unpack(">II", message[:8])
-                self.rows.append(Row(len(self.rows), node, len(self.rows), client, request, message[8:]))
+                self.enter(node, message)
             return self.row_of(message)
+
+    def enter(self, origin: int, message: bytes) -> None:
+        place = self.places[message[:8]] = len(self.rows)
+        client, request = struct.unpack(">II", message[:8])
+        self.rows.append(Row(place, origin, place, client, request, message[8:]))
 
     def append(self, count: int, client: int = 9, payload: bytes = b"played") -> None:
         """Appends so many rows that no client handed in."""
         with self.lock:
-            for _ in range(count):
-                place = len(self.rows)
-                self.rows.append(Row(place, 0, place, client, place, payload))
+            for place in range(len(self.rows), len(self.rows) + count):
+                self.enter(0, struct.pack(">II", client, place) + payload)
 
 
 class Node:
@@ -212,7 +217,7 @@ class LyingReplies(Node):
 
 
 class LyingPieces(Node):
-    """Gives other rows than there are, and rows where there are none."""
+    """Gives other rows than there are, and rows that nobody has beyond the end."""
 
     def piece(self, position: int) -> bytes:
         return lie(super().piece(position))
@@ -245,10 +250,10 @@ class Malformed(Node):
 
 
 class Flooding(Node):
-    """Answers each query, and then goes on and on."""
+    """Answers each query a thousand times."""
 
     def query(self, link: socket.socket, position: int) -> bool:
-        return all(say(link, self.piece(position + place)) for place in range(1000))
+        return all(say(link, self.piece(position)) for _ in range(1000))
 
 
 def end(link: socket.socket) -> None:
@@ -269,7 +274,7 @@ def say(link: socket.socket, message: bytes) -> bool:
 
 
 def lie(message: bytes) -> bytes:
-    """What a liar says in place of a node's message: another position, rows of other requests, and a row where there is none."""
+    """What a liar says in place of a node's message: another position, rows of other requests, and a row in an empty piece."""
     if len(message) == REPLY_BYTES and message[0] == POSITION:
         return message[:-1] + bytes([message[-1] ^ 1])
     if message[:1] != bytes([PIECE]):

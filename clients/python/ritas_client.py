@@ -1,7 +1,7 @@
 """A client of ritas nodes: it hands in commands and follows the log, and trusts no single node.
 
-n nodes keep one log of commands although up to f of them, where n is at least 3f + 1, lie in any way. This module needs nothing but Python (3.10 or
-later) and the nodes' addresses for clients:
+n nodes keep one log of commands although up to f of them lie in any way; n is at least 3f + 1. This module needs nothing but Python (3.10 or later)
+and the nodes' addresses for clients:
 
     with Cluster(["10.0.0.1:25100", "10.0.0.2:25100", "10.0.0.3:25100", "10.0.0.4:25100"], f=1) as cluster:
         position = cluster.submit(client=7, request=1, payload=b"hi")
@@ -49,8 +49,8 @@ WINDOW_FULL = 7
 
 # Seconds. A connection that is being made is given up, and so is one by which an answer is overdue.
 CONNECT, ANSWER = 5.0, 5.0
-# The pause before a connection is made again: it doubles, and is short again once the node answered rightly.
-FIRST_PAUSE, LAST_PAUSE = 0.05, 2.0
+# The pause before a connection is made again: it doubles, and is short again after one that stood for so long.
+FIRST_PAUSE, LAST_PAUSE, STEADY = 0.05, 2.0, 2.0
 # How long a request waits for replies before it is handed to further nodes.
 PATIENCE = 0.25
 # The pause before a node whose window was full gets the request again: it doubles.
@@ -61,7 +61,7 @@ READ = 1 << 16
 
 
 class RitasError(Exception):
-    """What this module raises, but for `ValueError` where an argument is wrong."""
+    """What this module raises, but for `ValueError` if an argument is wrong."""
 
 
 class TimedOut(RitasError, TimeoutError):
@@ -69,7 +69,7 @@ class TimedOut(RitasError, TimeoutError):
 
 
 class Refused(RitasError):
-    """More than f nodes refused the command, so a correct one did. `numbers` has the fault that each of them gave: 7 where its window was full."""
+    """More than f nodes refused the command, so a correct one did. `numbers` has the fault that each of them gave: 7 if its window was full."""
 
     def __init__(self, numbers: dict[int, int]):
         super().__init__("refused by " + ", ".join(f"node {node} with {number}" for node, number in sorted(numbers.items())))
@@ -158,7 +158,7 @@ class Fields:
 
 
 def read_piece(n: int, message: bytes) -> tuple[int, list[Row]]:
-    """The position of a piece of the log of n nodes, and its rows; `Malformed` where the bytes are none."""
+    """The position of a piece of the log of n nodes, and its rows. Raises `Malformed` if the bytes are none."""
     fields = Fields(message[:MOST_PIECE])
     fields.number(1, PIECE, PIECE)
     position = fields.number(4)
@@ -171,7 +171,7 @@ def read_piece(n: int, message: bytes) -> tuple[int, list[Row]]:
 
 
 def read_reply(message: bytes) -> Reply:
-    """A node's reply to a request; `Malformed` where the bytes are none."""
+    """A node's reply to a request. Raises `Malformed` if the bytes are none."""
     fields = Fields(message)
     reply = Reply(fields.number(1, REFUSAL, POSITION), fields.number(4), fields.number(4), fields.number(4))
     fields.end()
@@ -242,8 +242,8 @@ Place = tuple[socket.AddressFamily, tuple[str, int]]
 def place_of(node: str | tuple[str, int]) -> Place:
     """Where a node is, of `host:port` or of a pair."""
     host, port = (node.rpartition(":")[0], int(node.rpartition(":")[2])) if isinstance(node, str) else node
-    family, _, _, _, where = socket.getaddrinfo(host, port, type=socket.SOCK_STREAM)[0]
-    return family, (str(where[0]), int(where[1]))
+    family, _, _, _, found = socket.getaddrinfo(host, port, type=socket.SOCK_STREAM)[0]
+    return family, (str(found[0]), int(found[1]))
 
 
 class Kind(enum.Enum):
@@ -262,7 +262,7 @@ class Event(NamedTuple):
 
 @dataclasses.dataclass
 class Line:
-    """A connection with one node. `due` is when it is given up, and `again` when it is made again."""
+    """A connection with one node. It stands since `since`. `due` is when it is given up, and `again` when it is made again."""
 
     place: Place
     socket: socket.socket | None = None
@@ -270,6 +270,7 @@ class Line:
     is_up: bool = False
     came: bytearray = dataclasses.field(default_factory=bytearray)
     going: bytearray = dataclasses.field(default_factory=bytearray)
+    since: float = math.inf
     due: float = math.inf
     again: float = 0.0
     pause: float = FIRST_PAUSE
@@ -282,7 +283,10 @@ class Line:
 
 
 class Lines:
-    """Connections with nodes, one with each that is wanted, which are made again where they end. `faults` counts what was wrong, for each node."""
+    """Connections with nodes, one with each that is wanted. One that ends is made again after a pause.
+
+    `faults` counts for each node how often what it sent was wrong.
+    """
 
     def __init__(self, places: Sequence[Place], longest: int, faults: list[int]):
         self.lines = [Line(place) for place in places]
@@ -297,15 +301,15 @@ class Lines:
         self.lines[node].is_wanted = True
 
     def send(self, node: int, message: bytes) -> None:
-        """Sends a message by a connection that stands, which is given up where no answer comes in time."""
+        """Sends a message by a connection that stands. If no answer comes in time, the connection is given up."""
         line = self.lines[node]
         line.going += len(message).to_bytes(2, "big") + message
         line.due = min(line.due, time.monotonic() + ANSWER)
         self._write(node)
 
     def answered(self, node: int) -> None:
-        """Says that the node answered rightly, and that no answer is due any more."""
-        self.lines[node].due, self.lines[node].pause = math.inf, FIRST_PAUSE
+        """Says that the node answered, and that no answer is due any more."""
+        self.lines[node].due = math.inf
 
     def fault(self, node: int) -> None:
         """Ends the connection with a node, since what came is wrong; what came after it isn't looked at."""
@@ -345,13 +349,13 @@ class Lines:
 
     def _dial(self, node: int) -> None:
         line = self.lines[node]
-        family, where = line.place
+        family, address = line.place
         line.due = time.monotonic() + CONNECT
         line.socket = socket.socket(family, socket.SOCK_STREAM)
         line.socket.setblocking(False)
         line.socket.setsockopt(socket.IPPROTO_TCP, socket.TCP_NODELAY, 1)
         self._selector.register(line.socket, selectors.EVENT_WRITE, node)
-        if line.socket.connect_ex(where) not in (0, errno.EINPROGRESS):
+        if line.socket.connect_ex(address) not in (0, errno.EINPROGRESS):
             self._end(node)
 
     def _end(self, node: int) -> None:
@@ -359,13 +363,14 @@ class Lines:
         line = self.lines[node]
         if line.socket is None:
             return
+        now = time.monotonic()
         self._selector.unregister(line.socket)
         line.socket.close()
-        line.socket, line.is_up, line.due = None, False, math.inf
+        pause = FIRST_PAUSE if now - line.since >= STEADY else line.pause
+        line.socket, line.is_up, line.since, line.due = None, False, math.inf, math.inf
         line.came.clear()
         line.going.clear()
-        line.again = time.monotonic() + line.pause * random.uniform(0.75, 1)
-        line.pause = min(2 * line.pause, LAST_PAUSE)
+        line.again, line.pause = now + pause * random.uniform(0.75, 1), min(2 * pause, LAST_PAUSE)
         self._events.append(Event(node, Kind.DOWN))
 
     def _serve(self, node: int, mask: int) -> None:
@@ -384,7 +389,7 @@ class Lines:
         if line.socket is None or line.socket.getsockopt(socket.SOL_SOCKET, socket.SO_ERROR) != 0:
             self._end(node)
             return
-        line.is_up, line.due = True, math.inf
+        line.is_up, line.since, line.due = True, time.monotonic(), math.inf
         self._selector.modify(line.socket, selectors.EVENT_READ, node)
         self._events.append(Event(node, Kind.UP))
 
@@ -472,7 +477,7 @@ class Handing:
         return min([self.spread_at, *self.retries.values()])
 
     def go_on(self) -> None:
-        """Hands it out where that is due: to nodes that had no room, and, where replies are missing, to further nodes."""
+        """Hands it out as it is due: again to nodes that had no room, and to further nodes if replies are missing."""
         now = time.monotonic()
         for node in [node for node, moment in self.retries.items() if moment <= now]:
             del self.retries[node]
@@ -521,7 +526,7 @@ class Handing:
         self.pass_over(node)
 
     def check(self) -> None:
-        """Raises `Refused` where more than f nodes refused for good."""
+        """Raises `Refused` if more than f nodes refused for good."""
         if sum(number != WINDOW_FULL for number in self.refusals.values()) > self.f:
             raise Refused(self.refusals)
 
@@ -558,7 +563,7 @@ class Asking:
 class Follower:
     """Follows the log from a position on, by a connection with each node. It is a context manager, and an iterator over rows that never ends.
 
-    Where nobody asks it for rows it asks no node. It keeps at most 64 rows for each node, and as many that it may give.
+    As long as nobody asks it for rows it asks no node. It keeps at most 64 rows for each node, and as many that it may give.
     """
 
     def __init__(self, places: Sequence[Place], f: int, from_position: int, faults: list[int]):
@@ -572,7 +577,7 @@ class Follower:
             self._lines.want(node)
 
     def next_row(self, timeout: float | None = None) -> Row | None:
-        """The next row, once f + 1 nodes gave it; None where that takes more seconds than this."""
+        """The next row, once f + 1 nodes gave it; None if that takes more seconds than this."""
         until = math.inf if timeout is None else time.monotonic() + timeout
         while not self._entered:
             self._ask()
@@ -677,9 +682,9 @@ class Cluster:
     def submit(self, client: int, request: int, payload: bytes, timeout: float | None = None) -> int:
         """Hands a command in and answers the position of its row, once f + 1 nodes replied the same.
 
-        It goes to f + 1 nodes at first, and to others where some of these are down, refuse it, or are silent for a while. The log has one row for
-        each client and request, so the same command may be handed in again. A client that has another command takes another number for its request:
-        under an old one it is told the old position. Raises `TimedOut` or `Refused`.
+        It goes to f + 1 nodes at first, and to others if some of these are down, refuse it, or are silent for a while. The log has one row for each
+        client and request, so the same command may be handed in again. A client that has another command takes another number for its request: under
+        an old one it is told the old position. Raises `TimedOut` or `Refused`.
         """
         seconds = self.timeout if timeout is None else timeout
         until = time.monotonic() + seconds
@@ -701,8 +706,8 @@ class Cluster:
     def follow(self, from_position: int = 0, timeout: float | None = None) -> Iterator[Row]:
         """The rows of the log from this position on, in order, each once f + 1 nodes gave it.
 
-        At the end of the log it waits for more, and raises `TimedOut` where no row comes for `timeout` seconds. It raises `QueriesRefused` where so
-        many nodes don't know of queries that f + 1 can't answer.
+        At the end of the log it waits for more, and raises `TimedOut` if no row comes for `timeout` seconds. It raises `QueriesRefused` if so many
+        nodes don't know of queries that f + 1 can't answer.
         """
         with self.follower(from_position) as follower:
             while (row := follower.next_row(timeout)) is not None:

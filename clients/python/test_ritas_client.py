@@ -178,7 +178,7 @@ HONEST = played.Node
 
 
 class Submitting(Played):
-    """A position is believed once f + 1 nodes replied it, and the command goes where it must."""
+    """A position is believed once f + 1 nodes replied it, and the command goes to as many nodes as it must."""
 
     def test_positions(self) -> None:
         session, nodes, cluster = self.play(*[HONEST] * 4)
@@ -187,6 +187,13 @@ class Submitting(Played):
         self.assertEqual(cluster.submit(7, 2, b"hi"), 2)
         self.assertEqual(len(session.rows), 5)
         self.assertEqual([node.taken for node in nodes], [1] * 4)
+
+    def test_one_node_and_nodes_that_dont_lie(self) -> None:
+        for count in (1, 3):
+            session, _, cluster = self.play(*[HONEST] * count, f=0)
+            self.assertEqual([cluster.submit(7, request, b"hi") for request in range(5)], list(range(5)))
+            self.assertEqual(self.first(cluster, 5), session.rows)
+            self.assertTrue(all(len(givers) == 1 for givers in session.handed.values()))
 
     def test_arguments(self) -> None:
         _, nodes, cluster = self.play(*[HONEST] * 4)
@@ -386,6 +393,24 @@ class Following(Played):
         _, _, cluster = self.one_other(played.Flooding)
         self.assertGreater(cluster.faults[0], 0)
 
+    def test_a_piece_that_nobody_asked_for(self) -> None:
+        _, nodes, cluster = self.play(played.Flooding, HONEST, HONEST, HONEST)
+        with cluster.follower() as follower:
+            self.assertIsNone(follower.next_row(1.0))
+            self.await_that(lambda: follower.next_row(0.05) is None and cluster.faults[0] > 0)
+        # The pauses between its connections grow.
+        self.assertLess(nodes[0].taken, 9)
+
+    def test_one_that_begins_a_message_that_is_too_long(self) -> None:
+        class Beginning(played.Node):
+            def query(self, link: socket.socket, position: int) -> bool:
+                link.sendall(struct.pack(">H", ritas_client.MOST_PIECE + 1))
+                return True
+
+        _, _, cluster = self.play(Beginning, HONEST, HONEST, HONEST)
+        with cluster.follower() as follower:
+            self.await_that(lambda: follower.next_row(0.05) is None and cluster.faults[0] > 0)
+
     def test_a_silent_one(self) -> None:
         self.one_other(played.Silent)
 
@@ -450,7 +475,7 @@ class Following(Played):
 
 
 def serving_module() -> types.ModuleType:
-    """The repository's `examples/serving.py`, with the program that is to be run; the tests are skipped where one of them isn't there."""
+    """The repository's `examples/serving.py`, with the program that is to be run. If one of them isn't there, the tests are skipped."""
     program = os.environ.get("RITAS") or os.path.join(TOP, "crates", "ritas", "out", "ritas")
     if not os.access(program, os.X_OK):
         raise unittest.SkipTest(f"no real nodes: {os.path.normpath(program)} isn't built, and RITAS names no program")
