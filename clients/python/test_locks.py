@@ -142,7 +142,15 @@ class States(unittest.TestCase):
         self.row(1, "anything")
         self.assertEqual((self.holder(), self.holder("gate")), (2, 1))
         self.assertTrue(self.release(1, "gate"))
+        self.assertEqual(set(self.state._holders), {2})
         self.assertTrue(self.release(2))
+        self.assertFalse(self.state._holders or self.state._held)
+
+    def test_a_client_that_lost_its_only_lock(self) -> None:
+        self.acquire(1, lease=2)
+        self.others(2)
+        self.assertTrue(self.acquire(2))
+        self.assertEqual(set(self.state._holders), {2})
 
     def test_what_is_no_command(self) -> None:
         for payload in ("lock acquire", f"lock acquire {NONCE} 5", f"lock acquire {NONCE} 0 door", f"lock acquire {NONCE} 05 door",
@@ -374,6 +382,17 @@ class Clients(unittest.TestCase):
             with unittest.mock.patch.object(locks.secrets, "randbits", lambda _: next(drawn)):
                 self.assertEqual(client.acquire("door").token, 3)
             self.assertEqual(len(self.session.rows), 4)
+
+    def test_a_holder_that_is_too_late(self) -> None:
+        with Cluster(self.places, 1) as cluster:
+            client = locks.LockClient(cluster, 7, 0.02)
+            self.addCleanup(client.close)
+            held, until = client.acquire("door", lease=3), time.monotonic() + SOON
+            self.assertTrue(client.hold("door", held, iter((False, False, True)).__next__))
+            self.session.append(9)
+            self.assertFalse(client.hold("door", held, lambda: time.monotonic() > until))
+            self.assertLess(time.monotonic(), until)
+            self.assertGreater(client.acquire("door", lease=3).token, held.token)
 
     def test_nodes_that_dont_know_of_queries(self) -> None:
         session = played.Session(1)
