@@ -241,7 +241,10 @@ Place = tuple[socket.AddressFamily, tuple[str, int]]
 
 def place_of(node: str | tuple[str, int]) -> Place:
     """Where a node is, of `host:port` or of a pair."""
-    host, port = (node.rpartition(":")[0], int(node.rpartition(":")[2])) if isinstance(node, str) else node
+    if isinstance(node, str):
+        name, _, digits = node.rpartition(":")
+        node = name, int(digits)
+    host, port = node
     family, _, _, _, found = socket.getaddrinfo(host, port, type=socket.SOCK_STREAM)[0]
     return family, (str(found[0]), int(found[1]))
 
@@ -706,8 +709,8 @@ class Cluster:
     def follow(self, from_position: int = 0, timeout: float | None = None) -> Iterator[Row]:
         """The rows of the log from this position on, in order, each once f + 1 nodes gave it.
 
-        At the end of the log it waits for more, and raises `TimedOut` if no row comes for `timeout` seconds. It raises `QueriesRefused` if so many
-        nodes don't know of queries that f + 1 can't answer.
+        At the end of the log it waits for more. If no row comes for `timeout` seconds, it raises `TimedOut` and ends; a `follower` goes on after such
+        a wait. It raises `QueriesRefused` if so many nodes don't know of queries that f + 1 can't answer.
         """
         with self.follower(from_position) as follower:
             while (row := follower.next_row(timeout)) is not None:

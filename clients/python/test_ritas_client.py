@@ -15,6 +15,7 @@ import threading
 import time
 import types
 import unittest
+import unittest.mock
 from collections.abc import Callable
 
 import played
@@ -270,6 +271,14 @@ class Submitting(Played):
         _, nodes, cluster = self.play(played.Refusing, HONEST, HONEST, HONEST)
         setattr(nodes[0], "number", 8)
         self.assertEqual([cluster.submit(7, request, b"hi") for request in range(4)], list(range(4)))
+
+    def test_others_stand_in_at_once(self) -> None:
+        for wrong in ("refuses", "is down"):
+            _, nodes, cluster = self.play(played.Refusing, HONEST, HONEST, HONEST)
+            if wrong == "is down":
+                nodes[0].stop()
+            with unittest.mock.patch.object(ritas_client, "PATIENCE", 1000.0):
+                self.assertEqual([cluster.submit(7, request, b"hi") for request in range(5)], list(range(5)))
 
     def test_time_limit(self) -> None:
         _, _, cluster = self.play(HONEST, *[played.Silent] * 3)
