@@ -272,11 +272,26 @@ class Submitting(Played):
         setattr(nodes[0], "number", 8)
         self.assertEqual([cluster.submit(7, request, b"hi") for request in range(4)], list(range(4)))
 
+    def test_replies_to_an_earlier_request(self) -> None:
+        class Slow(played.Node):
+            is_slow = True
+
+            def tell(self) -> None:
+                if not self.is_slow:
+                    super().tell()
+
+        _, _, cluster = self.play(*[Slow] * 4)
+        self.assertRaises(TimedOut, cluster.submit, 7, 1, b"hi", timeout=0.5)
+        Slow.is_slow = False
+        self.assertEqual(cluster.submit(7, 2, b"hi"), 1)
+        self.assertEqual(cluster.submit(7, 1, b"hi"), 0)
+
     def test_others_stand_in_at_once(self) -> None:
         for wrong in ("refuses", "is down"):
             _, nodes, cluster = self.play(played.Refusing, HONEST, HONEST, HONEST)
             if wrong == "is down":
                 nodes[0].stop()
+            cluster.timeout = ritas_client.ANSWER / 2
             with unittest.mock.patch.object(ritas_client, "PATIENCE", 1000.0):
                 self.assertEqual([cluster.submit(7, request, b"hi") for request in range(5)], list(range(5)))
 
