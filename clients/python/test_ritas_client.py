@@ -7,6 +7,7 @@ from __future__ import annotations
 
 import importlib
 import os
+import random
 import socket
 import struct
 import sys
@@ -78,6 +79,27 @@ class Messages(unittest.TestCase):
         self.malformed(HI[:19] + (4089).to_bytes(2, "big") + bytes(4089), 19)
         self.malformed(HI[:-1], len(HI) - 1)
         self.malformed(HI + b"\0", len(HI))
+
+    def test_each_front_of_a_piece_lacks_what_follows(self) -> None:
+        whole = some_piece(5, 3, b"some bytes")
+        for size in range(len(whole)):
+            self.malformed(whole[:size], size)
+
+    def test_a_piece_has_one_spelling(self) -> None:
+        lot, taken = random.Random(1), 0
+        for _ in range(5000):
+            text = bytearray(some_piece(lot.randrange(9), lot.randrange(9), b"x" * lot.randrange(4)))
+            for _ in range(lot.randrange(3)):
+                text[lot.randrange(len(text))] = lot.choice((0, 1, 3, 8, 255, lot.randrange(256)))
+            try:
+                position, rows = read_piece(4, bytes(text))
+            except Malformed as fault:
+                self.assertIn(fault.offset, range(len(text) + 1))
+                continue
+            taken += 1
+            self.assertEqual(played.piece_bytes(position, rows), text)
+            self.assertEqual([row.position for row in rows], list(range(position, position + len(rows))))
+        self.assertIn(taken, range(1500, 4500))
 
     def test_longest_piece(self) -> None:
         rows = [some_row(place, bytes(4088)) for place in range(3)]
@@ -422,8 +444,9 @@ class Following(Played):
         with cluster.follower() as follower:
             self.assertIsNone(follower.next_row(1.0))
             self.await_that(lambda: follower.next_row(0.05) is None and cluster.faults[0] > 0)
-        # The pauses between its connections grow.
+        # The pauses between its connections grow, and nothing is looked at behind what is wrong.
         self.assertLess(nodes[0].taken, 9)
+        self.assertLessEqual(cluster.faults[0], nodes[0].taken)
 
     def test_one_that_begins_a_message_that_is_too_long(self) -> None:
         class Beginning(played.Node):
