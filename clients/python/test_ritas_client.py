@@ -461,6 +461,21 @@ class Following(Played):
     def test_a_silent_one(self) -> None:
         self.one_other(played.Silent)
 
+    def test_a_silent_one_is_dialed_again(self) -> None:
+        _, nodes, cluster = self.play(played.Silent, HONEST, HONEST, HONEST)
+        with unittest.mock.patch.object(ritas_client, "ANSWER", 0.6), cluster.follower() as follower:
+            self.await_that(lambda: follower.next_row(0.05) is None and nodes[0].taken > 2)
+
+    def test_a_reader_that_takes_its_time(self) -> None:
+        session, nodes, cluster = self.play(*[HONEST] * 4)
+        session.append(100)
+        with unittest.mock.patch.object(ritas_client, "ANSWER", 0.6), cluster.follower() as follower:
+            for place in range(100):
+                self.assertEqual(follower.next_row(SOON), session.rows[place])
+                if place in (0, 40, 80):
+                    time.sleep(0.8)
+        self.assertEqual([node.taken for node in nodes], [1] * 4)
+
     def test_an_old_one(self) -> None:
         self.one_other(played.Old)
 
