@@ -1,6 +1,6 @@
 //! Tests of `keyed_channel`: a channel in both versions, with the states of its keys, against the calls that take the keys alone.
 
-use crate::dealt::{ABC, ENTRY, FRAME, FRAME_2, SLOT, dealt};
+use crate::dealt::{SLOT, dealt, digest_of_abc, known_entry, known_frame, known_frame_2};
 use keyed_channel::{Channel, Keys, LazyFrame, OpenFault, Opened};
 use ritas_base::{Bytes, FrameVersion, Mem, Params, Tagger};
 use std::alloc::Global;
@@ -23,9 +23,9 @@ fn sealed(rt: &impl Abort, alloc: Global, version: FrameVersion) -> Result<Bytes
 #[test]
 fn a_channel_seals(rt: HostRuntime) -> Result<(), Fail> {
     let frame = sealed(&rt, rt.alloc(), FrameVersion::One)?;
-    assert_eq!(rt; frame.as_slice(), FRAME);
+    assert_eq!(rt; frame.as_slice(), known_frame());
     let frame = sealed(&rt, rt.alloc(), FrameVersion::Two)?;
-    assert_eq!(rt; frame.as_slice(), FRAME_2);
+    assert_eq!(rt; frame.as_slice(), known_frame_2());
     Ok(())
 }
 
@@ -34,10 +34,41 @@ fn is_opened(opened: &Opened) -> bool {
     opened.from == 3 && opened.seq == 258 && opened.body == b"\xaa\xbb".as_slice()
 }
 
+// Whether these bytes open as that frame. Like the next ones it promises nothing, so that what calls it has a short proof.
+fn opens(receiver: &Channel, bytes: &[u8]) -> bool {
+    match receiver.open(bytes) {
+        Ok(opened) => is_opened(&opened),
+        Err(_) => false,
+    }
+}
+
+// Why these bytes don't open, where they don't.
+fn fault_of(receiver: &Channel, bytes: &[u8]) -> Option<OpenFault> {
+    match receiver.open(bytes) {
+        Ok(_) => None,
+        Err(fault) => Some(fault),
+    }
+}
+
+// The same of a frame that was made lazily.
+fn opens_lazily(receiver: &Channel, frame: &LazyFrame) -> bool {
+    match receiver.open_lazily(frame) {
+        Ok(opened) => is_opened(&opened),
+        Err(_) => false,
+    }
+}
+
+fn lazy_fault_of(receiver: &Channel, frame: &LazyFrame) -> Option<OpenFault> {
+    match receiver.open_lazily(frame) {
+        Ok(_) => None,
+        Err(fault) => Some(fault),
+    }
+}
+
 #[test]
 fn a_channel_opens(rt: HostRuntime) -> Result<(), Fail> {
     let receiver = channel(&rt, rt.alloc(), 1, FrameVersion::One)?;
-    assert!(rt; is_opened(&receiver.open(FRAME)?));
+    assert!(rt; opens(&receiver, known_frame()));
     Ok(())
 }
 
@@ -45,10 +76,13 @@ fn a_channel_opens(rt: HostRuntime) -> Result<(), Fail> {
 fn a_channel_tags(rt: HostRuntime) -> Result<(), Fail> {
     let channel = channel(&rt, rt.alloc(), 1, FrameVersion::One)?;
     assert_eq!(rt; Tagger::me(&channel), 1);
-    assert_eq!(rt; channel.digest(b"abc").as_slice(), ABC.as_slice());
     assert_eq!(rt;
-        channel.entry(&SLOT, 3, 1, ABC).as_slice(),
-        ENTRY.as_slice()
+        channel.digest(b"abc").as_slice(),
+        digest_of_abc().as_slice()
+    );
+    assert_eq!(rt;
+        channel.entry(&SLOT, 3, 1, digest_of_abc()).as_slice(),
+        known_entry().as_slice()
     );
     Ok(())
 }
@@ -63,13 +97,16 @@ fn entries_of_a_channel(rt: HostRuntime) -> Result<(), Fail> {
     assert_eq!(rt; Tagger::me(&channel), 1);
     for other in [0_u8, 1, 2, 3, 4, 30] {
         assert!(rt; other < 31);
-        let given = channel.entry(&SLOT, 1, other, ABC);
+        let given = channel.entry(&SLOT, 1, other, digest_of_abc());
         assert_eq!(rt;
             given.as_slice(),
-            keys.entry(&SLOT, 1, other, ABC).as_slice()
+            keys.entry(&SLOT, 1, other, digest_of_abc()).as_slice()
         );
-        let got = channel.entry(&SLOT, other, 1, ABC);
-        assert_eq!(rt; got.as_slice(), keys.entry(&SLOT, other, 1, ABC).as_slice());
+        let got = channel.entry(&SLOT, other, 1, digest_of_abc());
+        assert_eq!(rt;
+            got.as_slice(),
+            keys.entry(&SLOT, other, 1, digest_of_abc()).as_slice()
+        );
     }
     Ok(())
 }
@@ -78,16 +115,9 @@ fn entries_of_a_channel(rt: HostRuntime) -> Result<(), Fail> {
 fn a_channel_of_version_2(rt: HostRuntime) -> Result<(), Fail> {
     let old = channel(&rt, rt.alloc(), 1, FrameVersion::One)?;
     let receiver = channel(&rt, rt.alloc(), 1, FrameVersion::Two)?;
-    assert_eq!(rt; receiver.open(FRAME_2)?.seq, 258);
-    assert!(rt;
-        old.open(FRAME_2)
-            .is_err_and(|fault| fault == OpenFault::Version)
-    );
-    assert!(rt;
-        receiver
-            .open(FRAME)
-            .is_err_and(|fault| fault == OpenFault::Version)
-    );
+    assert!(rt; opens(&receiver, known_frame_2()));
+    assert!(rt; fault_of(&old, known_frame_2()) == Some(OpenFault::Version));
+    assert!(rt; fault_of(&receiver, known_frame()) == Some(OpenFault::Version));
     Ok(())
 }
 
@@ -104,23 +134,43 @@ fn lazily(
     sender.seal_lazily(1, 258, &body)
 }
 
+// Whether these are the bytes that a lazy frame makes.
+fn makes(alloc: Global, frame: &LazyFrame, bytes: &[u8]) -> Result<bool, Mem> {
+    let made = frame.to_bytes(alloc)?;
+    Ok(made.as_slice() == bytes)
+}
+
+// Whether it says that these are its bytes.
+fn is(frame: &LazyFrame, bytes: &[u8]) -> bool {
+    frame.is(bytes)
+}
+
+// Whether its parts are those of the frame of replica 3 with number 258 and these two bytes.
+fn has_parts(frame: &LazyFrame) -> bool {
+    let parts = frame.parts();
+    parts.from == 3 && parts.seq == 258 && parts.body == b"\xaa\xbb".as_slice()
+}
+
 #[test]
 fn a_lazy_frame(rt: HostRuntime) -> Result<(), Fail> {
     for (version, bytes, other) in [
-        (FrameVersion::One, FRAME, FRAME_2),
-        (FrameVersion::Two, FRAME_2, FRAME),
+        (FrameVersion::One, known_frame(), known_frame_2()),
+        (FrameVersion::Two, known_frame_2(), known_frame()),
     ] {
         let frame = lazily(&rt, rt.alloc(), version, b"\xaa\xbb")?;
-        let made = frame.to_bytes(rt.alloc())?;
-        assert_eq!(rt; made.as_slice(), bytes);
-        assert!(rt; frame.is(bytes));
-        assert!(rt; !frame.is(other));
-        assert!(rt; !frame.is(b""));
-        let parts = frame.parts();
-        assert_eq!(rt; (parts.from, parts.seq), (3, 258));
-        assert_eq!(rt; parts.body, b"\xaa\xbb".as_slice());
+        assert!(rt; makes(rt.alloc(), &frame, bytes)?);
+        assert!(rt; is(&frame, bytes));
+        assert!(rt; !is(&frame, other));
+        assert!(rt; !is(&frame, b""));
+        assert!(rt; has_parts(&frame));
     }
     Ok(())
+}
+
+// A replica 1 of another session.
+fn stranger(alloc: Global) -> Result<Channel, Fail> {
+    let p = Params::new(4, 1)?;
+    Ok(Channel::new(alloc, Keys::deal(&[9; 32], 258, &p, 1))?)
 }
 
 // What a lazy frame of replica 3 for 1 in version 1 answers where it doesn't open, by the receiver and the length of the body.
@@ -129,9 +179,8 @@ fn lazy_frames_that_open_or_not(rt: HostRuntime) -> Result<(), Fail> {
     let frame = lazily(&rt, rt.alloc(), FrameVersion::One, b"\xaa\xbb")?;
     let long = lazily(&rt, rt.alloc(), FrameVersion::One, &[0; 16_342])?;
     let receiver = channel(&rt, rt.alloc(), 1, FrameVersion::One)?;
-    assert!(rt; is_opened(&receiver.open_lazily(&frame)?));
-    let p = Params::new(4, 1)?;
-    let stranger = Channel::new(rt.alloc(), Keys::deal(&[9; 32], 258, &p, 1))?;
+    assert!(rt; opens_lazily(&receiver, &frame));
+    let stranger = stranger(rt.alloc())?;
     let newer = channel(&rt, rt.alloc(), 1, FrameVersion::Two)?;
     let another = channel(&rt, rt.alloc(), 0, FrameVersion::One)?;
     for (channel, frame, wanted) in [
@@ -140,8 +189,7 @@ fn lazy_frames_that_open_or_not(rt: HostRuntime) -> Result<(), Fail> {
         (&another, &frame, OpenFault::NotMine),
         (&stranger, &frame, OpenFault::BadTag),
     ] {
-        let opened = channel.open_lazily(frame);
-        assert!(rt; opened.is_err_and(|fault| fault == wanted));
+        assert!(rt; lazy_fault_of(channel, frame) == Some(wanted));
     }
     Ok(())
 }

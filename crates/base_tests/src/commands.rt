@@ -18,11 +18,38 @@ fn append(
     log.append(alloc, Id { origin, num }, command).ok()
 }
 
+// Getters, each in a function that promises nothing, so that what calls several has a short proof.
+
+fn len(log: &Log) -> u32 {
+    log.len()
+}
+
+fn find(log: &Log, client: u32, request: u32) -> Option<u32> {
+    log.find(client, request)
+}
+
+fn has_row(log: &Log, position: u32) -> bool {
+    log.row(position).is_some()
+}
+
+// Whether the row at a position has the first command of this origin, and these parts.
+fn is_row(log: &Log, position: u32, origin: u8, client: u32, request: u32, payload: &[u8]) -> bool {
+    match log.row(position) {
+        Some(row) => {
+            row.id == Id { origin, num: 0 }
+                && row.client == client
+                && row.request == request
+                && row.payload.as_slice() == payload
+        }
+        None => false,
+    }
+}
+
 // A command enters at its second origin, and no more where its client and request have a row.
 #[test]
 fn each_request_has_one_row(rt: HostRuntime) {
     let mut log = Log::new(rt.alloc(), 1);
-    assert!(rt; log.len() == 0 && log.row(0).is_none() && log.find(7, 1).is_none());
+    assert!(rt; len(&log) == 0 && !has_row(&log, 0) && find(&log, 7, 1).is_none());
     for (origin, command, position) in [
         (0, b"\0\0\0\x07\0\0\0\x01hi".as_slice(), None),
         (1, b"\0\0\0\x07\0\0\0\x01ho".as_slice(), None),
@@ -35,21 +62,18 @@ fn each_request_has_one_row(rt: HostRuntime) {
         let entered = append(rt.alloc(), &mut log, origin, 0, command);
         assert_eq!(rt; entered, Some(position), "of {origin}");
     }
-    assert_eq!(rt; log.len(), 2);
+    assert_eq!(rt; len(&log), 2);
     for (position, origin, client, request, payload) in [
         (0, 3, 7, 1, b"hi".as_slice()),
         (1, 0, 16_909_060, 4_294_901_244, b"".as_slice()),
     ] {
-        assert_eq!(rt; log.find(client, request), Some(position));
-        let row = log.row(position).expect(&rt, "a row");
-        assert!(rt; row.id == Id { origin, num: 0 }, "at {position}");
+        assert_eq!(rt; find(&log, client, request), Some(position));
         assert!(rt;
-            row.client == client && row.request == request,
+            is_row(&log, position, origin, client, request, payload),
             "at {position}"
         );
-        assert!(rt; row.payload.as_slice() == payload, "at {position}");
     }
-    assert!(rt; log.row(2).is_none() && log.find(7, 2).is_none() && log.find(2, 1).is_none());
+    assert!(rt; !has_row(&log, 2) && find(&log, 7, 2).is_none() && find(&log, 2, 1).is_none());
 }
 
 // An origin counts once, whatever number of its own a command comes under.

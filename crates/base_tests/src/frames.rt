@@ -1,6 +1,6 @@
 //! Tests of `keyed_channel`: frames in both versions, which open and which don't, and the parts of those that nobody opened.
 
-use crate::dealt::{FRAME, FRAME_2, dealt};
+use crate::dealt::{dealt, front, known_frame, known_frame_2};
 use keyed_channel::{
     FRAME_OVERHEAD, FrameHeader, HEAD_LEN, Keys, LEAST_FRAME, OpenFault, Opened, frame_header,
     frame_parts, open_frame, seal,
@@ -20,9 +20,9 @@ fn sealed(rt: &impl Abort, alloc: Global, version: FrameVersion) -> Result<Bytes
 #[test]
 fn frames_are_sealed(rt: HostRuntime) -> Result<(), Fail> {
     let frame = sealed(&rt, rt.alloc(), FrameVersion::One)?;
-    assert_eq!(rt; frame.as_slice(), FRAME);
+    assert_eq!(rt; frame.as_slice(), known_frame());
     let frame = sealed(&rt, rt.alloc(), FrameVersion::Two)?;
-    assert_eq!(rt; frame.as_slice(), FRAME_2);
+    assert_eq!(rt; frame.as_slice(), known_frame_2());
     Ok(())
 }
 
@@ -31,11 +31,26 @@ fn is_opened(opened: &Opened) -> bool {
     opened.from == 3 && opened.seq == 258 && opened.body == b"\xaa\xbb".as_slice()
 }
 
+// Whether these bytes open as that frame. Like `fault_of` it promises nothing, so that what calls it has a short proof.
+fn opens(keys: &Keys, bytes: &[u8]) -> bool {
+    match open_frame(keys, bytes) {
+        Ok(opened) => is_opened(&opened),
+        Err(_) => false,
+    }
+}
+
+// Why these bytes don't open, where they don't.
+fn fault_of(keys: &Keys, bytes: &[u8]) -> Option<OpenFault> {
+    match open_frame(keys, bytes) {
+        Ok(_) => None,
+        Err(fault) => Some(fault),
+    }
+}
+
 #[test]
-fn frames_open(rt: HostRuntime) -> Result<(), Fail> {
+fn frames_open(rt: HostRuntime) {
     let receiver = dealt(&rt, 1);
-    assert!(rt; is_opened(&open_frame(&receiver, FRAME)?));
-    Ok(())
+    assert!(rt; opens(&receiver, known_frame()));
 }
 
 #[test]
@@ -62,8 +77,8 @@ fn untagged(version: u8, from: u8, to: u8) -> [u8; LEAST_FRAME] {
 fn too_short_and_too_long(rt: HostRuntime) -> Result<(), Fail> {
     let keys = dealt(&rt, 1);
     let long = vec![in rt.alloc(); 1; 16_385]?;
-    assert!(rt; open_frame(&keys, &[1; 42]).is_err_and(|fault| fault == OpenFault::Short));
-    assert!(rt; open_frame(&keys, &long).is_err_and(|fault| fault == OpenFault::Long));
+    assert!(rt; fault_of(&keys, &[1; 42]) == Some(OpenFault::Short));
+    assert!(rt; fault_of(&keys, &long) == Some(OpenFault::Long));
     Ok(())
 }
 
@@ -78,14 +93,14 @@ fn what_does_not_open(rt: HostRuntime) {
         (&untagged(1, 3, 1), OpenFault::BadTag),
     ];
     for (bytes, fault) in cases {
-        assert!(rt; matches!(open_frame(&keys, bytes), Err(x) if x == fault));
+        assert!(rt; fault_of(&keys, bytes) == Some(fault));
     }
 }
 
 // The parts of a frame are there whoever reads it, and whatever its tag is.
 #[test]
 fn parts_of_what_is_not_opened(rt: HostRuntime) {
-    let parts = frame_parts(FRAME_2).expect(&rt, "long enough");
+    let parts = frame_parts(known_frame_2()).expect(&rt, "long enough");
     assert_eq!(rt; (parts.from, parts.seq), (3, 258));
     assert_eq!(rt; parts.body, b"\xaa\xbb".as_slice());
     let parts = frame_parts(&[9; FRAME_OVERHEAD]).expect(&rt, "long enough");
@@ -96,17 +111,18 @@ fn parts_of_what_is_not_opened(rt: HostRuntime) {
 
 #[test]
 fn heads_of_frames(rt: HostRuntime) {
-    assert!(rt; frame_header(&FRAME[..HEAD_LEN]) == Some(FrameHeader { from: 3, seq: 258 }));
-    assert!(rt; frame_header(&FRAME[..HEAD_LEN - 1]).is_none());
+    assert!(rt;
+        frame_header(front(known_frame(), HEAD_LEN)) == Some(FrameHeader { from: 3, seq: 258 })
+    );
+    assert!(rt; frame_header(front(known_frame(), HEAD_LEN - 1)).is_none());
 }
 
 // A session of version 2 has frames of its own, and opens none of version 1.
 #[test]
-fn frames_of_version_2(rt: HostRuntime) -> Result<(), Fail> {
+fn frames_of_version_2(rt: HostRuntime) {
     let old = dealt(&rt, 1);
     let receiver = old.with_version(FrameVersion::Two);
-    assert!(rt; is_opened(&open_frame(&receiver, FRAME_2)?));
-    assert!(rt; open_frame(&old, FRAME_2).is_err_and(|fault| fault == OpenFault::Version));
-    assert!(rt; open_frame(&receiver, FRAME).is_err_and(|fault| fault == OpenFault::Version));
-    Ok(())
+    assert!(rt; opens(&receiver, known_frame_2()));
+    assert!(rt; fault_of(&old, known_frame_2()) == Some(OpenFault::Version));
+    assert!(rt; fault_of(&receiver, known_frame()) == Some(OpenFault::Version));
 }

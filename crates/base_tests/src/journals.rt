@@ -1,10 +1,10 @@
 //! Tests of `event_journal`: a journal that is opened again, after any call of its disk was the last, and its head.
 
-ghost use Rattle.std.specs.Prelude.{◌<◌, length, IfOk};
+ghost use Rattle.std.specs.Prelude.{◌≡◌, ◌<◌, length, true, IfOk, OnOk};
 ghost use Rattle.event_journal.specs.Journal.{IsRecord};
 
-use event_journal::{journal_head, open_journal};
-use outside::{Disk, MemDisk};
+use event_journal::{Journal, JournalFault, journal_head, open_journal};
+use outside::{Disk, Failed, MemDisk};
 use ritas_base::{Bytes, Event, Mem, Mode, Params, Vect};
 use std::alloc::Global;
 use std::process::Abort;
@@ -24,42 +24,101 @@ fn input(alloc: Global, text: &[u8]) -> Result<Event, Mem>
     Ok(Event::Input { at: 0, bytes })
 }
 
+// The calls of a journal stand in functions of their own, which promise of it what the next one asks for and no more: so what makes several has a
+// short proof.
+
+fn open(alloc: Global, disk: &mut MemDisk) -> Result<(Journal, Vec<Event>), JournalFault>
+    ensures { IfOk result (λ x. (x.0.me ≡ 0) × (x.0.live ≡ true)) }
+{
+    open_journal(alloc, disk, 0, &HEAD)
+}
+
+fn append(
+    alloc: Global,
+    journal: &mut Journal,
+    disk: &mut MemDisk,
+    event: &Event,
+) -> Result<(), JournalFault>
+    requires live { journal.old.live ≡ true }
+    requires own { IsRecord journal.old.me event.now }
+    ensures live { OnOk result (journal.new.live ≡ true) }
+    ensures me { journal.new.me ≡ journal.old.me }
+{
+    journal.append(alloc, disk, event)
+}
+
+// Two turns together.
+fn append_turns(
+    alloc: Global,
+    journal: &mut Journal,
+    disk: &mut MemDisk,
+) -> Result<(), JournalFault>
+    requires live { journal.old.live ≡ true }
+    requires own { journal.old.me ≡ 0 }
+{
+    let group = [Event::Turn { at: 0 }, Event::Turn { at: 0 }];
+    journal.append_all(alloc, disk, &group)
+}
+
+// How many events a disk's journal has.
+fn count_in(rt: &impl Abort, alloc: Global, disk: &mut MemDisk) -> usize {
+    let (_, events) = open(alloc, disk).expect(rt, "opens");
+    events.len()
+}
+
+// The head, for whoever needs to know nothing of it.
+fn head() -> [u8; 51] {
+    HEAD
+}
+
+fn disk_of(alloc: Global, fails: &[u64]) -> Result<MemDisk, Mem> {
+    MemDisk::new(alloc, &[], 4_096, 100, fails)
+}
+
+fn read(disk: &mut MemDisk, buf: &mut [u8; 100]) -> Result<usize, Failed> {
+    disk.read(0, buf)
+}
+
+fn after_stop(alloc: Global, disk: &MemDisk, pick: u32) -> Result<MemDisk, Mem> {
+    disk.after_stop(alloc, pick)
+}
+
 // Opens a journal that has no event, and appends an input and a turn.
 fn append_two(rt: &impl Abort, alloc: Global, disk: &mut MemDisk) -> Result<(), Mem> {
-    let (mut journal, events) = open_journal(alloc, disk, 0, &HEAD).expect(rt, "opens");
+    let (mut journal, events) = open(alloc, disk).expect(rt, "opens");
     assert_eq!(rt; events.len(), 0);
     let first = input(alloc, b"\0\0\0\x07\0\0\0\x01hi")?;
-    assert_eq!(rt; journal.append(alloc, disk, &first), Ok(()));
-    assert_eq!(rt; journal.append(alloc, disk, &Event::Turn { at: 0 }), Ok(()));
+    assert_eq!(rt; append(alloc, &mut journal, disk, &first), Ok(()));
+    assert_eq!(rt;
+        append(alloc, &mut journal, disk, &Event::Turn { at: 0 }),
+        Ok(())
+    );
     Ok(())
 }
 
 // What is appended stands in the file, and is given when it is opened again: 52 + 17 + 5 + 1 bytes.
 #[test]
 fn keeps_events(rt: HostRuntime) -> Result<(), Fail> {
-    let mut disk = MemDisk::new(rt.alloc(), &[], 4_096, 100, &[])?;
+    let mut disk = disk_of(rt.alloc(), &[])?;
     append_two(&rt, rt.alloc(), &mut disk)?;
     let mut buf = [9; 100];
-    assert_eq!(rt; disk.read(0, &mut buf), Ok(75));
+    assert_eq!(rt; read(&mut disk, &mut buf), Ok(75));
     assert_eq!(rt; buf[0], 1);
-    assert_eq!(rt; &buf[1..52], HEAD.as_slice());
+    assert_eq!(rt; &buf[1..52], head().as_slice());
     let records = b"\x01\0\x0e\x02\0\0\x0a\0\0\0\x07\0\0\0\x01hi\x01\0\x02\x03\0\0";
     assert_eq!(rt; &buf[52..75], records.as_slice());
-    let (_, again) = open_journal(rt.alloc(), &mut disk, 0, &HEAD).expect(&rt, "opens again");
-    assert_eq!(rt; again.len(), 2);
+    assert_eq!(rt; count_in(&rt, rt.alloc(), &mut disk), 2);
     Ok(())
 }
 
 // Appends a turn, and then two together, and says how many were kept.
 fn run(alloc: Global, disk: &mut MemDisk) -> usize {
-    let turn = Event::Turn { at: 0 };
-    let group = [Event::Turn { at: 0 }, Event::Turn { at: 0 }];
-    match open_journal(alloc, disk, 0, &HEAD) {
+    match open(alloc, disk) {
         Ok((mut journal, _events)) => {
-            if journal.append(alloc, disk, &turn).is_err() {
+            if append(alloc, &mut journal, disk, &Event::Turn { at: 0 }).is_err() {
                 return 0;
             }
-            if journal.append_all(alloc, disk, &group).is_err() {
+            if append_turns(alloc, &mut journal, disk).is_err() {
                 return 1;
             }
             3
@@ -73,13 +132,13 @@ fn run(alloc: Global, disk: &mut MemDisk) -> usize {
 fn stops_anywhere(rt: HostRuntime) -> Result<(), Fail> {
     let alloc = rt.alloc();
     for stop in 0..17 {
-        let mut disk = MemDisk::new(alloc, &[], 4_096, 100, &[stop])?;
+        let mut disk = disk_of(alloc, &[stop])?;
         let kept = run(alloc, &mut disk);
         for pick in 0..5 {
-            let mut left = disk.after_stop(alloc, pick)?;
-            let (_, events) = open_journal(alloc, &mut left, 0, &HEAD).expect(&rt, "opens");
+            let mut left = after_stop(alloc, &disk, pick)?;
+            let count = count_in(&rt, alloc, &mut left);
             let next = if kept == 0 { 1 } else { 3 };
-            assert!(rt; events.len() == kept || events.len() == next);
+            assert!(rt; count == kept || count == next);
         }
     }
     Ok(())

@@ -9,6 +9,7 @@
 //! | `streams`, `links`, `disks` | `outside` |
 //! | `bodies`, `values` | `frame_codec` |
 //! | `tags`, `frames`, `channels`, `notes`, with the keys of `dealt` | `keyed_channel` |
+//! | `sizes` | `ritas_base` and `keyed_channel`, where memory is ample |
 //! | `schedules` | `schedule_file` |
 //! | `journals` | `event_journal` |
 //! | `replies` | `client_port` |
@@ -50,6 +51,8 @@ mod replies;
 mod resuming;
 #[cfg(test)]
 mod schedules;
+#[cfg(test)]
+mod sizes;
 #[cfg(test)]
 mod slots;
 #[cfg(test)]

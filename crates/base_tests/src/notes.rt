@@ -1,6 +1,6 @@
 //! Tests of `keyed_channel`: notes, which are the same in both versions.
 
-use crate::dealt::{ACK, AGAIN, FRAME, dealt};
+use crate::dealt::{dealt, front, known_ack, known_again, known_frame};
 use keyed_channel::{
     NOTE_LEN, Note, OpenFault, is_note, open_frame, open_note, seal_ack, seal_again,
 };
@@ -15,29 +15,35 @@ const OTHER: &[u8] =
 
 #[test]
 fn notes_by_their_first_byte(rt: HostRuntime) {
-    assert!(rt; is_note(ACK) && is_note(&ACK[..1]));
-    assert!(rt; !is_note(FRAME) && !is_note(b""));
+    assert!(rt; is_note(known_ack()) && is_note(front(known_ack(), 1)));
+    assert!(rt; !is_note(known_frame()) && !is_note(b""));
 }
 
 #[test]
 fn notes_of_dealt_keys(rt: HostRuntime) {
     let (one, three) = (dealt(&rt, 1), dealt(&rt, 3));
     assert!(rt; three.n() > 1);
-    assert_eq!(rt; seal_ack(&three, 1, 258).as_slice(), ACK);
-    assert_eq!(rt; seal_again(&three, 1).as_slice(), AGAIN);
-    assert!(rt; open_note(&one, ACK) == Some(Note::Ack { from: 3, seq: 258 }));
-    assert!(rt; open_note(&one, AGAIN) == Some(Note::Again { from: 3 }));
+    assert_eq!(rt; seal_ack(&three, 1, 258).as_slice(), known_ack());
+    assert_eq!(rt; seal_again(&three, 1).as_slice(), known_again());
+    assert!(rt; open_note(&one, known_ack()) == Some(Note::Ack { from: 3, seq: 258 }));
+    assert!(rt; open_note(&one, known_again()) == Some(Note::Again { from: 3 }));
 }
 
 // A note is for one replica, and isn't a frame, and what has another form, length or number is no note.
 #[test]
 fn what_is_no_note(rt: HostRuntime) {
     let (one, three) = (dealt(&rt, 1), dealt(&rt, 3));
-    for bytes in [NUMBERED, OTHER, FRAME, &ACK[..NOTE_LEN - 1], b"".as_slice()] {
+    for bytes in [
+        NUMBERED,
+        OTHER,
+        known_frame(),
+        front(known_ack(), NOTE_LEN - 1),
+        b"".as_slice(),
+    ] {
         assert!(rt; open_note(&one, bytes).is_none());
     }
-    assert!(rt; open_note(&three, ACK).is_none());
-    assert!(rt; open_frame(&one, ACK).is_err_and(|fault| fault == OpenFault::Version));
+    assert!(rt; open_note(&three, known_ack()).is_none());
+    assert!(rt; open_frame(&one, known_ack()).is_err_and(|fault| fault == OpenFault::Version));
 }
 
 // Notes are the same in both versions.
@@ -46,9 +52,9 @@ fn notes_of_version_2(rt: HostRuntime) {
     let one = dealt(&rt, 1).with_version(FrameVersion::Two);
     let three = dealt(&rt, 3).with_version(FrameVersion::Two);
     assert!(rt; three.n() > 1);
-    assert_eq!(rt; seal_ack(&three, 1, 258).as_slice(), ACK);
-    assert_eq!(rt; seal_again(&three, 1).as_slice(), AGAIN);
-    assert!(rt; open_note(&one, ACK) == Some(Note::Ack { from: 3, seq: 258 }));
-    assert!(rt; open_note(&one, AGAIN) == Some(Note::Again { from: 3 }));
-    assert!(rt; open_frame(&one, ACK).is_err_and(|fault| fault == OpenFault::Version));
+    assert_eq!(rt; seal_ack(&three, 1, 258).as_slice(), known_ack());
+    assert_eq!(rt; seal_again(&three, 1).as_slice(), known_again());
+    assert!(rt; open_note(&one, known_ack()) == Some(Note::Ack { from: 3, seq: 258 }));
+    assert!(rt; open_note(&one, known_again()) == Some(Note::Again { from: 3 }));
+    assert!(rt; open_frame(&one, known_ack()).is_err_and(|fault| fault == OpenFault::Version));
 }

@@ -49,27 +49,41 @@ fn replies_of_both_forms(rt: HostRuntime) {
     );
 }
 
+// Each call stands in a function of its own that promises nothing, so that what makes several has a short proof.
+
+fn position_of(client: u32, request: u32, position: u32) -> [u8; 13] {
+    write_reply(client, request, position)
+}
+
+fn refusal_of(client: u32, request: u32, number: u32) -> [u8; 13] {
+    write_refusal(client, request, number)
+}
+
+fn answer(votes: &mut Votes, from: u8, message: &[u8]) -> Result<Option<u32>, ReplyFault> {
+    votes.reply(from, message)
+}
+
 // Of four replicas one may be faulty, so two have to give one position.
 #[test]
 fn two_of_four_settle(rt: HostRuntime) {
     let p = Params::new(4, 1).expect(&rt, "numbers");
     let mut votes = Votes::new(&p, 7, 1);
-    for (from, message, answer) in [
-        (0, write_reply(7, 1, 5), Ok(None)),
-        (1, write_reply(7, 1, 6), Ok(None)),
-        (2, write_reply(7, 1, 5), Ok(Some(5))),
-        (0, write_reply(7, 1, 6), Err(ReplyFault::Again)),
-        (0, write_refusal(7, 1, 7), Err(ReplyFault::Again)),
-        (3, write_refusal(7, 1, 7), Err(ReplyFault::Refused(7))),
-        (3, write_reply(7, 2, 6), Err(ReplyFault::NotMine)),
-        (3, write_reply(8, 1, 6), Err(ReplyFault::NotMine)),
+    for (from, message, wanted) in [
+        (0, position_of(7, 1, 5), Ok(None)),
+        (1, position_of(7, 1, 6), Ok(None)),
+        (2, position_of(7, 1, 5), Ok(Some(5))),
+        (0, position_of(7, 1, 6), Err(ReplyFault::Again)),
+        (0, refusal_of(7, 1, 7), Err(ReplyFault::Again)),
+        (3, refusal_of(7, 1, 7), Err(ReplyFault::Refused(7))),
+        (3, position_of(7, 2, 6), Err(ReplyFault::NotMine)),
+        (3, position_of(8, 1, 6), Err(ReplyFault::NotMine)),
         (3, [0; 13], Err(ReplyFault::Form)),
-        (4, write_reply(7, 1, 6), Err(ReplyFault::NoSuchReplica)),
-        (3, write_reply(7, 1, 6), Ok(Some(6))),
+        (4, position_of(7, 1, 6), Err(ReplyFault::NoSuchReplica)),
+        (3, position_of(7, 1, 6), Ok(Some(6))),
     ] {
-        assert_eq!(rt; votes.reply(from, &message), answer, "of {from}");
+        assert_eq!(rt; answer(&mut votes, from, &message), wanted, "of {from}");
     }
-    assert_eq!(rt; votes.reply(3, b"\x01"), Err(ReplyFault::Length));
+    assert_eq!(rt; answer(&mut votes, 3, b"\x01"), Err(ReplyFault::Length));
 }
 
 // The laws are functions that do nothing.

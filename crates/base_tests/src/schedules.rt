@@ -2,6 +2,7 @@
 
 // What is answered of files that are cut or changed is a table of the program, in `cases/hostile-input`.
 
+use crate::dealt::front;
 use outside::{Buffer, Failed, MemSink, MemSource, Source};
 use ritas_base::{Bytes, Event, FrameVersion, Mem, Mode, Params, SenderSet, Vect};
 use schedule_file::{FileFault, Header, HeaderKeys, Reader, Writer, event_size};
@@ -32,21 +33,57 @@ const ALONE: [u8; 126] = [
     0,
 ];
 
+// The calls of a reader and of a writer stand in functions of their own that promise nothing, so that what makes several has a short proof.
+
+fn start<S: Source>(alloc: Global, source: &mut S) -> Result<(Header, Reader), FileFault> {
+    Reader::start(alloc, source)
+}
+
+fn next<S: Source>(
+    alloc: Global,
+    reader: &mut Reader,
+    source: &mut S,
+) -> Result<Option<Event>, FileFault> {
+    reader.next(alloc, source)
+}
+
+fn write_header(sink: &mut Buffer, header: &Header) -> Result<(), Failed> {
+    Writer::start(sink, header)
+}
+
+fn write_end(sink: &mut Buffer) -> Result<(), Failed> {
+    Writer::end(sink)
+}
+
+// Each file is named by one function alone: a proof unfolds a constant wherever it is named, and that takes seconds.
+
+fn empty() -> [u8; 55] {
+    EMPTY
+}
+
+fn five() -> [u8; 80] {
+    FIVE
+}
+
+fn alone() -> [u8; 126] {
+    ALONE
+}
+
 // What a file comes to: how many events, and then its fault, if it has one. What follows is to be answered again.
 fn outcome<S: Source>(alloc: Global, source: &mut S) -> (u32, Option<FileFault>) {
-    let mut reader = match Reader::start(alloc, source) {
+    let mut reader = match start(alloc, source) {
         Ok((_, reader)) => reader,
         Err(fault) => return (0, Some(fault)),
     };
     for count in 0..1_000 {
-        match reader.next(alloc, source) {
+        match next(alloc, &mut reader, source) {
             Ok(Some(_)) => {}
             Ok(None) => {
-                let stays = matches!(reader.next(alloc, source), Ok(None));
+                let stays = matches!(next(alloc, &mut reader, source), Ok(None));
                 return (if stays { count } else { 7_777 }, None);
             }
             Err(fault) => {
-                let stays = reader.next(alloc, source).err() == Some(fault);
+                let stays = next(alloc, &mut reader, source).err() == Some(fault);
                 return (if stays { count } else { 7_777 }, Some(fault));
             }
         }
@@ -57,8 +94,8 @@ fn outcome<S: Source>(alloc: Global, source: &mut S) -> (u32, Option<FileFault>)
 // The version of a file, whose header is written to the sink.
 fn header_again(alloc: Global, file: &[u8], sink: &mut Buffer) -> Result<FrameVersion, FileFault> {
     let mut source = MemSource::new(alloc, file, &[])?;
-    let (header, _) = Reader::start(alloc, &mut source)?;
-    Writer::start(sink, &header)?;
+    let (header, _) = start(alloc, &mut source)?;
+    write_header(sink, &header)?;
     Ok(header.mode.version)
 }
 
@@ -72,11 +109,11 @@ fn versions(rt: HostRuntime) -> Result<(), Fail> {
         (3, Err(FileFault::Version)),
     ];
     for (byte, want) in cases {
-        let mut file = EMPTY;
+        let mut file = empty();
         file[4] = byte;
         let mut sink = Buffer::new(rt.alloc());
         assert_eq!(rt; header_again(rt.alloc(), &file, &mut sink), want);
-        let same = sink.taken() == &file[..54];
+        let same = sink.taken() == front(&file, 54);
         assert_eq!(rt; same, want.is_ok());
     }
     Ok(())
@@ -84,7 +121,7 @@ fn versions(rt: HostRuntime) -> Result<(), Fail> {
 
 // A header, and four frames of 32,768 bytes each, which a reader takes in five pieces, since it holds 65,536 bytes at most.
 fn long_file(alloc: Global) -> Result<Vec<u8>, Mem> {
-    let mut bytes = Vec::from_slice(alloc, &EMPTY[..54])?;
+    let mut bytes = Vec::from_slice(alloc, front(&empty(), 54))?;
     let text = vec![in alloc; b'x'; 32_768]?;
     for _ in 0..4 {
         bytes.extend_from_slice(&[1, 0, 0x80, 0])?;
@@ -114,8 +151,8 @@ fn pieces(rt: HostRuntime) -> Result<(), Fail> {
 
 #[test]
 fn all_fields(rt: HostRuntime) -> Result<(), Fail> {
-    let mut source = MemSource::new(rt.alloc(), &FIVE, &[])?;
-    let (header, _) = Reader::start(rt.alloc(), &mut source)?;
+    let mut source = MemSource::new(rt.alloc(), &five(), &[])?;
+    let (header, _) = start(rt.alloc(), &mut source)?;
     assert_eq!(rt; (header.session, header.p.n(), header.p.f()), (7, 2, 0));
     assert_eq!(rt;
         (header.mode.root, header.mode.vect, header.correct.mask()),
@@ -130,24 +167,24 @@ fn all_fields(rt: HostRuntime) -> Result<(), Fail> {
 // The event that follows so many of a file, or none at its end.
 fn event_behind(alloc: Global, file: &[u8], many: u32) -> Result<Option<Event>, FileFault> {
     let mut source = MemSource::new(alloc, file, &[])?;
-    let (_, mut reader) = Reader::start(alloc, &mut source)?;
+    let (_, mut reader) = start(alloc, &mut source)?;
     for _ in 0..many {
-        reader.next(alloc, &mut source)?;
+        next(alloc, &mut reader, &mut source)?;
     }
-    reader.next(alloc, &mut source)
+    next(alloc, &mut reader, &mut source)
 }
 
 #[test]
 fn events_with_bytes(rt: HostRuntime) -> Result<(), Fail> {
-    let frame = event_behind(rt.alloc(), &FIVE, 0)?;
+    let frame = event_behind(rt.alloc(), &five(), 0)?;
     assert!(rt;
         matches!(&frame, Some(Event::Frame { to: 0, bytes }) if bytes.as_slice() == b"ab".as_slice())
     );
-    let input = event_behind(rt.alloc(), &FIVE, 1)?;
+    let input = event_behind(rt.alloc(), &five(), 1)?;
     assert!(rt;
         matches!(&input, Some(Event::Input { at: 1, bytes }) if bytes.as_slice() == b"c".as_slice())
     );
-    let sealed = event_behind(rt.alloc(), &FIVE, 4)?;
+    let sealed = event_behind(rt.alloc(), &five(), 4)?;
     assert!(rt;
         matches!(&sealed, Some(Event::Sealed { from: 1, to: 0, body }) if body.as_slice().is_empty())
     );
@@ -158,13 +195,13 @@ fn events_with_bytes(rt: HostRuntime) -> Result<(), Fail> {
 fn events_of_numbers(rt: HostRuntime) -> Result<(), Fail> {
     assert!(rt;
         matches!(
-            event_behind(rt.alloc(), &FIVE, 2),
+            event_behind(rt.alloc(), &five(), 2),
             Ok(Some(Event::Turn { at: 1 }))
         )
     );
     assert!(rt;
         matches!(
-            event_behind(rt.alloc(), &FIVE, 3),
+            event_behind(rt.alloc(), &five(), 3),
             Ok(Some(Event::Pass {
                 from: 0,
                 to: 1,
@@ -172,7 +209,7 @@ fn events_of_numbers(rt: HostRuntime) -> Result<(), Fail> {
             }))
         )
     );
-    assert!(rt; matches!(event_behind(rt.alloc(), &FIVE, 5), Ok(None)));
+    assert!(rt; matches!(event_behind(rt.alloc(), &five(), 5), Ok(None)));
     Ok(())
 }
 
@@ -202,33 +239,33 @@ fn header_alone(rt: &impl Abort) -> Header {
 #[test]
 fn writes_alone(rt: HostRuntime) -> Result<(), Fail> {
     let mut sink = Buffer::new(rt.alloc());
-    Writer::start(&mut sink, &header_alone(&rt))?;
+    write_header(&mut sink, &header_alone(&rt))?;
     let bytes = Bytes::from_slice(rt.alloc(), b"ab")?;
     Writer::event(&mut sink, &Event::Frame { to: 1, bytes })?;
-    Writer::end(&mut sink)?;
-    assert_eq!(rt; sink.taken(), ALONE.as_slice());
+    write_end(&mut sink)?;
+    assert_eq!(rt; sink.taken(), alone().as_slice());
     Ok(())
 }
 
 #[test]
 fn reads_alone(rt: HostRuntime) -> Result<(), Fail> {
-    let mut source = MemSource::new(rt.alloc(), &ALONE, &[])?;
-    let (header, _) = Reader::start(rt.alloc(), &mut source)?;
+    let mut source = MemSource::new(rt.alloc(), &alone(), &[])?;
+    let (header, _) = start(rt.alloc(), &mut source)?;
     assert!(rt;
         matches!(header.keys, HeaderKeys::Row { me: 1, row: keys, coin }
             if keys.as_slice() == row().as_slice() && coin == [13; 32])
     );
-    let frame = event_behind(rt.alloc(), &ALONE, 0)?;
+    let frame = event_behind(rt.alloc(), &alone(), 0)?;
     assert!(rt;
         matches!(&frame, Some(Event::Frame { to: 1, bytes }) if bytes.as_slice() == b"ab".as_slice())
     );
-    assert!(rt; matches!(event_behind(rt.alloc(), &ALONE, 1), Ok(None)));
+    assert!(rt; matches!(event_behind(rt.alloc(), &alone(), 1), Ok(None)));
     Ok(())
 }
 
 // Writes a file again, which has five events, event by event.
 fn write_again(rt: &impl Abort, alloc: Global, sink: &mut Buffer) -> Result<(), FileFault> {
-    let mut source = MemSource::new(alloc, &FIVE, &[])?;
+    let mut source = MemSource::new(alloc, &five(), &[])?;
     let (header, mut reader) = Reader::start(alloc, &mut source)?;
     Writer::start(sink, &header)?;
     assert_eq!(rt; sink.len(), 54);
@@ -249,7 +286,7 @@ fn write_again(rt: &impl Abort, alloc: Global, sink: &mut Buffer) -> Result<(), 
 fn writes_what_was_read(rt: HostRuntime) -> Result<(), Fail> {
     let mut sink = Buffer::new(rt.alloc());
     write_again(&rt, rt.alloc(), &mut sink)?;
-    assert_eq!(rt; sink.taken(), FIVE.as_slice());
+    assert_eq!(rt; sink.taken(), five().as_slice());
     let mut source = MemSource::new(rt.alloc(), sink.taken(), &[])?;
     assert_eq!(rt; outcome(rt.alloc(), &mut source), (5, None));
     Ok(())

@@ -1,6 +1,6 @@
 //! Tests of `keyed_channel`: tags and coins, against public values and those that another program made.
 
-use crate::dealt::{ABC, ENTRY, MASTER, SLOT, dealt};
+use crate::dealt::{SLOT, dealt, digest_of_abc, known_entry, master_key};
 use keyed_channel::{SeedCoin, coin_key, digest, hmac};
 use ritas_base::{Coin, Slot, Tagger};
 
@@ -46,13 +46,16 @@ fn tags_of_dealt_keys(rt: HostRuntime) {
     assert_eq!(rt; keys.me(), 1);
     assert_eq!(rt; keys.n(), 4);
     assert_eq!(rt; keys.session(), 7);
-    assert_eq!(rt; digest(b"abc").as_slice(), ABC.as_slice());
-    assert_eq!(rt; keys.entry(&SLOT, 3, 1, ABC).as_slice(), ENTRY.as_slice());
+    assert_eq!(rt; digest(b"abc").as_slice(), digest_of_abc().as_slice());
+    assert_eq!(rt;
+        keys.entry(&SLOT, 3, 1, digest_of_abc()).as_slice(),
+        known_entry().as_slice()
+    );
 }
 
 #[test]
 fn coins(rt: HostRuntime) {
-    let key = coin_key(MASTER, 7, 2);
+    let key = coin_key(master_key(), 7, 2);
     assert_eq!(rt; key.as_slice(), COIN_KEY.as_slice());
     let coin = SeedCoin::new(7, key);
     for (step, origin, bit) in [(1, 0, false), (1, 1, true), (1, 2, false), (2, 2, true)] {
