@@ -54,8 +54,8 @@ fn each_request_has_one_row(rt: HostRuntime) {
         (0, b"\0\0\0\x07\0\0\0\x01hi".as_slice(), None),
         (1, b"\0\0\0\x07\0\0\0\x01ho".as_slice(), None),
         (2, b"\x01\x02\x03\x04\xff\xfe\xfd\xfc".as_slice(), None),
-        (32, b"\0\0\0\x07\0\0\0\x01hi".as_slice(), None),
-        (3, b"\0\0\0\x07\0\0\0\x01hi".as_slice(), Some(0)),
+        (200, b"\0\0\0\x07\0\0\0\x01hi".as_slice(), Some(0)),
+        (3, b"\0\0\0\x07\0\0\0\x01hi".as_slice(), None),
         (2, b"\0\0\0\x07\0\0\0\x01ho".as_slice(), None),
         (0, b"\x01\x02\x03\x04\xff\xfe\xfd\xfc".as_slice(), Some(1)),
     ] {
@@ -64,7 +64,7 @@ fn each_request_has_one_row(rt: HostRuntime) {
     }
     assert_eq!(rt; len(&log), 2);
     for (position, origin, client, request, payload) in [
-        (0, 3, 7, 1, b"hi".as_slice()),
+        (0, 200, 7, 1, b"hi".as_slice()),
         (1, 0, 16_909_060, 4_294_901_244, b"".as_slice()),
     ] {
         assert_eq!(rt; find(&log, client, request), Some(position));
