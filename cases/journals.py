@@ -381,7 +381,7 @@ def calls_of_the_disk(folder: str) -> None:
         check(first == ("fdatasync", "journal", 0), f"{life}: the file is opened, and then comes {first}")
         writes = [call[0] for call in rest if call[0] != "pread"]
         wanted = ["pwrite", "fdatasync"] * (len(writes) // 2)
-        check(len(writes) > 4 * COMMANDS and writes == wanted, f"{life}: of {len(writes)} calls behind it not each second one is a sync of its own")
+        check(len(writes) >= 4 * COMMANDS and writes == wanted, f"{life}: of {len(writes)} calls behind it not each second one is a sync of its own")
         check({call[1] for call in rest} == {"journal"}, f"{life}: the folder is called again")
 
 
