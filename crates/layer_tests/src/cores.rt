@@ -163,6 +163,13 @@ impl Service for Mute {
       proposals = λ p mode is_correct coins steps run root i v ci a. absurd Prim.cc;
       unspent = λ p mode is_correct coins steps run i ci a. absurd Prim.cc;
       last_vectors = λ p mode is_correct coins steps run i j x y ci cj a. absurd (none-some x a);
+      proposed = λ p mode is_correct coins steps run i ci. record {
+        bits = λ a attempt b q. absurd (none-some _ q);
+        values = λ a attempt v q. absurd (none-some _ q);
+        entries = λ a k v e ck q r. absurd (none-some _ q);
+      };
+      entries = λ p mode is_correct coins steps run root i k v e ci ck a r. absurd Prim.cc;
+      appended = λ p mode is_correct coins steps run i x ci h. absurd Prim.cc;
     } };
 
     ghost opens_down = { λ seat w s t near e. ap (λ (c : ℕ). not (c == 5)) near.class ∙ e };
