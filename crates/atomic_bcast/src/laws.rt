@@ -35,7 +35,8 @@ pub fn base_is_least()
 /// The law of atomic broadcast, over any vector consensus that keeps its laws: over every run of correct replicas, of
 /// two identifier logs one is a part of the other, each identifier stands in a log once, vectors of one round are equal,
 /// and each identifier that a round appends was in the list that some correct replica proposed in the round. What the
-/// instances inside decided was proposed to them by correct replicas, and each identifier of a log was appended by a round.
+/// instances inside decided was proposed to them by correct replicas, and each identifier of a log was appended
+/// by a round.
 ///
 /// It does nothing: its contract is the law.
 pub fn one_log()

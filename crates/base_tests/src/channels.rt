@@ -34,7 +34,8 @@ fn is_opened(opened: &Opened) -> bool {
     opened.from == 3 && opened.seq == 258 && opened.body == b"\xaa\xbb".as_slice()
 }
 
-// Whether these bytes open as that frame. Like the next ones it promises nothing, so that what calls it has a short proof.
+// Whether these bytes open as that frame. Like the next ones it promises nothing, so that what calls it has a
+// short proof.
 fn opens(receiver: &Channel, bytes: &[u8]) -> bool {
     match receiver.open(bytes) {
         Ok(opened) => is_opened(&opened),

@@ -4,7 +4,8 @@ use keyed_channel::Keys;
 use ritas_base::{Params, Slot};
 use std::process::Abort;
 
-// Python's hmac and hashlib gave the values that no public text has. Each is named by one function alone, which promises nothing: a proof unfolds a
+// Python's hmac and hashlib gave the values that no public text has. Each is named by one function alone, which
+// promises nothing: a proof unfolds a
 // constant wherever it is named, and that takes seconds.
 
 const MASTER: &[u8; 32] =

@@ -24,7 +24,8 @@ fn input(alloc: Global, text: &[u8]) -> Result<Event, Mem>
     Ok(Event::Input { at: 0, bytes })
 }
 
-// The calls of a journal stand in functions of their own, which promise of it what the next one asks for and no more: so what makes several has a
+// The calls of a journal stand in functions of their own, which promise of it what the next one asks for and no
+// more: so what makes several has a
 // short proof.
 
 fn open(alloc: Global, disk: &mut MemDisk) -> Result<(Journal, Vec<Event>), JournalFault>

@@ -156,7 +156,8 @@ fn are_odd(resume: &Resume) -> bool {
     true
 }
 
-// A hundred thousand frames are kept, and every second one is acknowledged, the newest first: the others stay in their order, and the oldest make room.
+// A hundred thousand frames are kept, and every second one is acknowledged, the newest first: the others stay in
+// their order, and the oldest make room.
 #[test]
 fn many_are_acknowledged(rt: HostRuntime) {
     let mut resume = Resume::new(rt.alloc(), 1).expect(&rt, "memory");

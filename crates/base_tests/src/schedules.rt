@@ -33,7 +33,8 @@ const ALONE: [u8; 126] = [
     0,
 ];
 
-// The calls of a reader and of a writer stand in functions of their own that promise nothing, so that what makes several has a short proof.
+// The calls of a reader and of a writer stand in functions of their own that promise nothing, so that what makes
+// several has a short proof.
 
 fn start<S: Source>(alloc: Global, source: &mut S) -> Result<(Header, Reader), FileFault> {
     Reader::start(alloc, source)
