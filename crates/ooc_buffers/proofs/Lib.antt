@@ -1,5 +1,10 @@
-pub mod Steps
 pub mod KeyLaws
 pub mod KeyItems
-pub mod Turns
+pub mod Walks
+pub mod Leaving
+pub mod Stamps
+mod Sorting
+pub mod InOrder
+pub mod Places
 pub mod Peers
+pub mod Clearing

@@ -1,12 +1,14 @@
 -- What is released, list by list.
-use Rattle.std.specs.Prelude.{◌≡◌, ℕ, ◌+◌, ◌<◌, ◌≤◌, ◌-◌, nat_lt, Bool, not, cond, List, [], ◌∷◌, ◌++◌, length, map, take, drop, refl}
-use Rattle.std.proofs.Common.{sym, ◌∙◌, ap, ap₂, inl, inr, arith, append_assoc, length-append, get_or}
+use Rattle.std.specs.Prelude.{◌≡◌, ℕ, ◌+◌, ◌<◌, ◌≤◌, ◌-◌, zero, suc, nat_lt, Bool, true, false, not, cond, List, [], ◌∷◌, ◌++◌, length, map, take, drop, refl}
+use Rattle.std.proofs.Common.{sym, ◌∙◌, ap, ap₂, subst, inl, inr, arith, append_assoc, length-append, get_or}
 use Rattle.std.proofs.Math.ListN.{set}
 use Rattle.std.proofs.lemmas.Bool.{cases_Bool, cond-true, cond-false, lt-ltb}
 use Rattle.std.proofs.lemmas.List.Edits.{map_over_more}
+use Rattle.std.proofs.lemmas.List.Sums.{sum_by-append, sum_by-cons}
 use Rattle.std.proofs.lemmas.List.{take_more, take-append-drop, append-nil, length-map, length-take-le, get_or-append_right, get_or-drop}
 use Rattle.ritas_base.specs.declared.item.Item.{Item}
 use Rattle.ritas_base.specs.Quorums.{count_yes, count_no}
+use Rattle.ooc_buffers.specs.Groups.{AreRight, AreAllRight}
 use Rattle.ooc_buffers.specs.Lists.{HeldItem, passing, failing, released, remaining, busy_peers}
 
 -- the items of one list that pass
@@ -124,3 +126,55 @@ room_next t old i now inbox there len many cap kept within read room before =
     let same : get_or now i kept ≡ get_or old i kept = next_same (failing t) old now i kept within before.lists in
     let few : length (passing t (get_or now i kept)) ≡ length (passing t (get_or old i kept)) = ap (λ (l : List HeldItem). length (passing t l)) same in
     omega (arith, room, before.count, few, room_more t old i kept within)
+
+-- the held items of one peer are right
+right_get : (right : Item → Bool) (xs : List (List HeldItem)) (i : ℕ) (d : List HeldItem) → i < length xs → AreAllRight right xs → AreRight right (get_or xs i d)
+right_get right [] i d within all = absurd (omega arith)
+right_get right (x ∷ xs) zero d within all = all.0
+right_get right (x ∷ xs) (suc i) d within all = right_get right xs i d (omega (arith, within)) all.1
+
+pub right_at : (right : Item → Bool) (xs : List (List HeldItem)) (i : ℕ) (kept : List HeldItem) → i < length xs → kept ≡ get_or xs i kept → AreAllRight right xs
+    → AreRight right kept
+right_at right xs i kept within is all = subst (λ (l : List HeldItem). AreRight right l) (sym is) (right_get right xs i kept within all)
+
+pub right_next : (right : Item → Bool) (f : List HeldItem → List HeldItem) (old now : List (List HeldItem)) (i : ℕ) (kept : List HeldItem) → i < length old → kept ≡ get_or now i kept
+    → now ≡ map f (take i old) ++ drop i old → AreAllRight right old → AreRight right (get_or now i kept)
+right_next right f old now i kept within is before all =
+    subst (λ (l : List HeldItem). AreRight right l) (sym (next_same f old now i kept within before)) (right_get right old i kept within all)
+
+pub few_next : (t : Item → Bool) (old : List (List HeldItem)) (i : ℕ) (now : List (List HeldItem)) (inbox there : List Item) (len many : ℕ) (kept : List HeldItem)
+    → i < length old → IsReleasing t old i now inbox there len many → length (passing t (get_or now i kept)) ≤ length (released t old)
+few_next t old i now inbox there len many kept within before =
+    let same : get_or now i kept ≡ get_or old i kept = next_same (failing t) old now i kept within before.lists in
+    let few : length (passing t (get_or now i kept)) ≡ length (passing t (get_or old i kept)) = ap (λ (l : List HeldItem). length (passing t l)) same in
+    omega (arith, few, room_more t old i kept within)
+
+-- where all items are right, those that are held are
+all_right : (kept : List HeldItem) → AreRight (λ _. true) kept
+all_right [] = tt
+all_right (k ∷ kept) = (refl, all_right kept)
+
+pub every_right : (held : List (List HeldItem)) → AreAllRight (λ _. true) held
+every_right [] = tt
+every_right (kept ∷ held) = (all_right kept, every_right held)
+
+-- for how many something is held, with one peer more
+busy_next : (xs : List (List HeldItem)) (i : ℕ) (d : List HeldItem) → i < length xs
+    → busy_peers (take (i + 1) xs) ≡ busy_peers (take i xs) + cond {A = ℕ} (nat_lt 0 (length (get_or xs i d))) 1 0
+busy_next xs i d within =
+    let f = λ (kept : List HeldItem). cond {A = ℕ} (nat_lt 0 (length kept)) 1 0 in
+    let more = ap busy_peers (take_more xs i d within) ∙ sum_by-append f (take i xs) (get_or xs i d ∷ []) in
+    let one = sum_by-cons f (get_or xs i d) [] in
+    omega (arith, more, one)
+
+pub busy_more : (xs : List (List HeldItem)) (i : ℕ) (kept : List HeldItem) (busy : ℕ) (is_empty : Bool) → i < length xs → kept ≡ get_or xs i kept
+    → is_empty ≡ not (nat_lt 0 (length kept)) → busy ≡ busy_peers (take i xs) → busy + cond {A = ℕ} is_empty 0 1 ≡ busy_peers (take (i + 1) xs)
+busy_more xs i kept busy is_empty within here is before =
+    let next = busy_next xs i kept within in
+    let same = ap (λ (l : List HeldItem). cond {A = ℕ} (nat_lt 0 (length l)) 1 0) here in
+    let turned = ap (λ (b : Bool). cond {A = ℕ} b 0 1) is ∙ by_turn (nat_lt 0 (length kept)) in
+    omega (arith, next, same, turned, before)
+  where
+    by_turn : (b : Bool) → cond {A = ℕ} (not b) 0 1 ≡ cond {A = ℕ} b 1 0
+    by_turn true = refl
+    by_turn false = refl

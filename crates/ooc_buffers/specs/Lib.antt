@@ -2,3 +2,5 @@ pub mod Lists
 pub mod Closures
 pub mod Moves
 pub mod Keys
+pub mod Groups
+pub mod Spots

@@ -1,14 +1,9 @@
 -- What moving the items that pass a test does.
-use Rattle.std.specs.Prelude.{◌≡◌, ℕ, Bool, List, ◌++◌, ◌+◌, map, take, drop, length}
+use Rattle.std.specs.Prelude.{◌≡◌, Bool, List, ◌++◌, ◌+◌, map, length}
 use Rattle.std.specs.VecDeque.{deque_len}
 use Rattle.std.specs.declared.collections.VecDeque.{VecDeque}
 use Rattle.ritas_base.specs.declared.item.Item.{Item}
 use Rattle.ooc_buffers.specs.Lists.{HeldItem, passing, failing}
-
--- of the first i of one list's items those that pass have moved behind the inbox, and the others stand behind the rest
-pub record HasMoved (t : Item → Bool) (old : List HeldItem) (i : ℕ) (now : List HeldItem) (inbox inbox' : List Item) : Type 0 where
-  pub kept : now ≡ drop i old ++ failing t (take i old)
-  pub moved : inbox' ≡ inbox ++ map (λ k. k.item) (passing t (take i old))
 
 -- all that pass have moved
 pub record Releases {Z : Type 0} (t : Item → Bool) (old new : List HeldItem) (inbox inbox' : VecDeque Item Z) : Type 0 where

@@ -5,7 +5,11 @@ ghost use Rattle.std.specs.VecDeque.{deque_len, deque_capacity};
 ghost use Rattle.ritas_base.specs.declared.item.Item.{Item};
 ghost use Rattle.ooc_buffers.specs.Lists.{is_held, held_bytes, most_held_bytes, bytes_if_full, with_item_held, released, remaining, busy_peers};
 ghost use Rattle.ooc_buffers.specs.Closures.{Computes};
+ghost use Rattle.ooc_buffers.specs.Groups.{OpensByGroups, EndsByGroups, AreAllRight};
+ghost use Rattle.ooc_buffers.specs.Spots.{GoesBy};
 
+use crate::entry::Entry;
+use crate::group::{Spot, Walk};
 use crate::peer::Peer;
 use ritas_base::{Item, Mem};
 use std::alloc::Global;
@@ -144,7 +148,7 @@ impl Held {
     /// The one error is want of memory, after which nothing has moved.
     pub fn release<F: Fn(&Item) -> bool>(
         &mut self,
-        _alloc: Global,
+        alloc: Global,
         is_open: F,
         inbox: &mut VecDeque<Item>,
     ) -> Result<(), Mem>
@@ -153,15 +157,55 @@ impl Held {
         ensures kept { (t : Item → Bool) → Computes F.Fn is_open t → OnOk result (self.new ≡ remaining t self.old) }
         ensures err { OnErr result ((inbox.new.items ≡ inbox.old.items) × (self.new ≡ self.old)) }
     {
+        self.open(alloc, Walk::Items, &is_open, inbox)
+    }
+
+    /// Does what `release` does, for a test that goes by groups: where an item passes, those of its group pass whose round
+    /// is no later. Of each group it asks the items of the first rounds, up to one that fails, and passes the others by.
+    ///
+    /// The groups are those of `group_of`, and `right` says of which items the test goes by groups: those that are held
+    /// must be so. The one error is want of memory, after which nothing has moved.
+    pub fn release_groups<F: Fn(&Item) -> bool>(
+        &mut self,
+        alloc: Global,
+        is_open: F,
+        inbox: &mut VecDeque<Item>,
+    ) -> Result<(), Mem>
+        requires { F.IsAlwaysCallable is_open }
+        ensures moved { (t right : Item → Bool) → Computes F.Fn is_open t → OpensByGroups right t → AreAllRight right self.old
+            → OnOk result (inbox.new.items ≡ inbox.old.items ++ released t self.old) }
+        ensures kept { (t right : Item → Bool) → Computes F.Fn is_open t → OpensByGroups right t → AreAllRight right self.old
+            → OnOk result (self.new ≡ remaining t self.old) }
+        ensures err { OnErr result ((inbox.new.items ≡ inbox.old.items) × (self.new ≡ self.old)) }
+    {
+        self.open(alloc, Walk::Groups, &is_open, inbox)
+    }
+
+    // Moves the items that pass the test to the back of the inbox.
+    fn open<F: Fn(&Item) -> bool>(
+        &mut self,
+        alloc: Global,
+        walk: Walk,
+        test: &F,
+        inbox: &mut VecDeque<Item>,
+    ) -> Result<(), Mem>
+        requires { F.IsAlwaysCallable test.now }
+        ensures moved { (t right : Item → Bool) → Computes F.Fn test.now t → GoesBy walk right t → AreAllRight right self.old
+            → OnOk result (inbox.new.items ≡ inbox.old.items ++ released t self.old) }
+        ensures kept { (t right : Item → Bool) → Computes F.Fn test.now t → GoesBy walk right t → AreAllRight right self.old
+            → OnOk result (self.new ≡ remaining t self.old) }
+        ensures err { OnErr result ((inbox.new.items ≡ inbox.old.items) × (self.new ≡ self.old)) }
+    {
         if self.busy == 0 {
             return Ok(());
         }
-        let room = room_for(self.peers.as_slice(), &is_open)?;
+        let room = room_for(self.peers.as_slice(), walk, test)?;
         if room == 0 {
             return Ok(());
         }
         inbox.reserve(room)?;
-        release_all(self.peers.as_mut_slice(), &is_open, inbox);
+        let mut moved = VecDeque::with_capacity(alloc, room)?;
+        release_all(self.peers.as_mut_slice(), walk, test, &mut moved, inbox);
         self.busy = busy_peers(self.peers.as_slice());
         Ok(())
     }
@@ -171,11 +215,31 @@ impl Held {
         requires { F.IsAlwaysCallable is_past }
         ensures { (t : Item → Bool) → Computes F.Fn is_past t → self.new ≡ remaining t self.old }
     {
+        self.clear(Walk::Items, &is_past);
+    }
+
+    /// Does what `forget` does, for a test that ends whole groups: where an item passes, all of its group do. Of each group
+    /// it asks the first item, and passes the others by where this one fails.
+    ///
+    /// The groups are those of `group_of`, and `right` says of which items the test goes by groups: those that are held
+    /// must be so.
+    pub fn forget_groups<F: Fn(&Item) -> bool>(&mut self, is_past: F)
+        requires { F.IsAlwaysCallable is_past }
+        ensures { (t right : Item → Bool) → Computes F.Fn is_past t → EndsByGroups right t → AreAllRight right self.old → self.new ≡ remaining t self.old }
+    {
+        self.clear(Walk::Groups, &is_past);
+    }
+
+    // Drops the items that pass the test.
+    fn clear<F: Fn(&Item) -> bool>(&mut self, walk: Walk, test: &F)
+        requires { F.IsAlwaysCallable test.now }
+        ensures { (t right : Item → Bool) → Computes F.Fn test.now t → GoesBy walk right t → AreAllRight right self.old → self.new ≡ remaining t self.old }
+    {
         if self.busy == 0 {
             return;
         }
         for peer in self.peers.iter_mut() {
-            peer.forget(&is_past);
+            peer.forget(walk, test);
         }
         self.busy = busy_peers(self.peers.as_slice());
     }
@@ -185,29 +249,44 @@ impl Held {
 fn busy_peers(peers: &[Peer]) -> usize
     ensures { result ≡ busy_peers peers.now }
 {
-    peers.iter().filter(|peer| !peer.is_empty()).count()
+    let mut busy = 0;
+    for peer in peers {
+        if !peer.is_empty() {
+            busy += 1;
+        }
+    }
+    busy
 }
 
 // How many items pass the test.
-fn room_for<F: Fn(&Item) -> bool>(peers: &[Peer], test: &F) -> Result<usize, Mem>
+fn room_for<F: Fn(&Item) -> bool>(peers: &[Peer], walk: Walk, test: &F) -> Result<usize, Mem>
     requires { F.IsAlwaysCallable test.now }
-    ensures { (t : Item → Bool) → Computes F.Fn test.now t → IfOk result (λ n. n ≡ length (released t peers.now)) }
+    ensures { (t right : Item → Bool) → Computes F.Fn test.now t → GoesBy walk right t → AreAllRight right peers.now
+        → IfOk result (λ n. n ≡ length (released t peers.now)) }
 {
     let mut room: usize = 0;
     for peer in peers {
-        room = room.checked_add(peer.count(test)).ok_or(Mem)?;
+        room = room.checked_add(peer.count(walk, test)?).ok_or(Mem)?;
     }
     Ok(room)
 }
 
-// Moves the items that pass the test to the inbox, which has room for them.
-fn release_all<F: Fn(&Item) -> bool>(peers: &mut [Peer], test: &F, inbox: &mut VecDeque<Item>)
-    requires { F.IsAlwaysCallable test.now }
-    ensures { (t : Item → Bool) → Computes F.Fn test.now t
+// Moves the items that pass the test to the inbox, by way of a list that is empty. Both have room for them.
+fn release_all<F: Fn(&Item) -> bool>(
+    peers: &mut [Peer],
+    walk: Walk,
+    test: &F,
+    moved: &mut VecDeque<(Spot, Entry)>,
+    inbox: &mut VecDeque<Item>,
+)
+    requires test { F.IsAlwaysCallable test.now }
+    requires empty { moved.old.items ≡ [] }
+    ensures { (t right : Item → Bool) → Computes F.Fn test.now t → GoesBy walk right t → AreAllRight right peers.old
+        → length (released t peers.old) ≤ deque_capacity moved.old
         → deque_len inbox.old + length (released t peers.old) ≤ deque_capacity inbox.old
         → (peers.new ≡ remaining t peers.old) × (inbox.new.items ≡ inbox.old.items ++ released t peers.old) }
 {
     for peer in peers.iter_mut() {
-        peer.release(test, inbox);
+        peer.release(walk, test, moved, inbox);
     }
 }

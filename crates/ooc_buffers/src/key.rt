@@ -77,12 +77,11 @@ pub(crate) fn count_of(index: &IndexMap<Key, usize>, key: &Key) -> usize
 
 // Counts one more for a key.
 pub(crate) fn count_in(index: &mut IndexMap<Key, usize>, key: Key) -> Result<(), Mem>
-    requires { count_at index.old key + 1 < 2 ^ 64 }
     ensures ok { OnOk result ((q : Key) → count_at index.new q ≡ count_at index.old q + (if key_eq q key then 1 else 0)) }
     ensures err { OnErr result ((q : Key) → count_at index.new q ≡ count_at index.old q) }
 {
-    let count = count_of(index, &key);
-    index.insert(key, count + 1)?;
+    let more = count_of(index, &key).checked_add(1).ok_or(Mem)?;
+    index.insert(key, more)?;
     Ok(())
 }
 

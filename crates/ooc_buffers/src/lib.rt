@@ -8,14 +8,21 @@
 //! Contracts see `Held` as one list for each peer, in the order in which its items came (`specs/Lists.antt`). Each call
 //! says exactly what it leaves there, and `release` what it moves.
 //!
-//! Each list stands in a ring with an index beside it: how many of its items have one kind and slot, and for columns
-//! one mark of the value. So to hold an item, to look for one and to ask for the held bytes costs a look-up; only for
-//! a column whose mark is there the list is searched. To release or to forget goes once round each list, in place, and
-//! round none where nothing is held for any peer.
+//! The items of a peer stand in one map, by group, by round and by a stamp: the list is in the order of the stamps. Items of one
+//! class, number and attempt are a group, and so are the columns of one slot (`specs/Groups.antt`). An index beside the map
+//! counts how many items have one kind and slot, and for columns one mark of the value. So to look for an item and to ask
+//! for the held bytes costs a look-up; only for a column whose mark is there the items are searched.
+//!
+//! `release` and `forget` ask each item. `release_groups` and `forget_groups` ask the items of a group by their rounds, and
+//! where one fails they go on behind the group. What has moved is put in the order of the stamps.
 #![tactic(auto)]
 
+mod entry;
+mod group;
 mod held;
 mod key;
+mod order;
 mod peer;
+mod search;
 
 pub use held::{Held, HoldFault};

@@ -1,106 +1,83 @@
 //! The items that are held for one peer, in the order in which they came.
 
-ghost use Rattle.std.specs.Prelude.{◌≡◌, ℕ, ◌+◌, ◌<◌, ◌≤◌, ◌^◌, Bool, true, false, not, nat_lt, List, [], ◌∷◌, ◌++◌, map, length, sum_by, OnOk, OnErr, if◌then◌else◌};
+ghost use Rattle.std.specs.Prelude.{◌≡◌, ℕ, ◌+◌, ◌<◌, ◌≤◌, ◌^◌, Bool, not, nat_lt, List, [], ◌∷◌, ◌++◌, map, length, sum_by, OnOk, OnErr, IfOk};
 ghost use Rattle.std.specs.List.{list_any};
 ghost use Rattle.std.specs.VecDeque.{deque_len, deque_capacity};
 ghost use Rattle.ritas_base.specs.declared.item.Item.{Item};
 ghost use Rattle.ritas_base.specs.Messages.{kind_eq};
 ghost use Rattle.ooc_buffers.specs.Lists.{HeldItem, is_same_item, passing, failing};
 ghost use Rattle.ooc_buffers.specs.Closures.{Computes};
+ghost use Rattle.ooc_buffers.specs.Groups.{AreRight};
 ghost use Rattle.ooc_buffers.specs.Moves.{Releases};
 ghost use Rattle.ooc_buffers.specs.Keys.{CountsKeys};
+ghost use Rattle.ooc_buffers.specs.Spots.{held_in, AreAt, GoesBy, Leaves};
 
+use crate::entry::{Entry, is_same};
+use crate::group::{Group, Spot, Walk};
 use crate::key::{Key, count_in, count_of, count_out};
+use crate::order::sort;
+use crate::search::{count_open, drop_open, take_open};
 use indexmap::IndexMap;
 use ritas_base::{Item, Kind, Mem};
 use std::alloc::Global;
-use std::collections::VecDeque;
+use std::collections::{BTreeMap, VecDeque};
 use std::marker::Model;
 
-/// An item that is held, and the length that it was held with.
-#[derive(Drop)]
-pub(crate) struct Entry {
-    item: Item,
-    len: u32,
-}
-
-impl Model for Entry {
-    ghost use Rattle.ooc_buffers.specs.Lists.{HeldItem};
-
-    ghost Value = { HeldItem };
-
-    ghost view = { λ e. record { item = e.item; len = e.len } };
-}
-
-// Whether the item passes the test.
-fn passes<F: Fn(&Item) -> bool>(entry: &Entry, test: &F) -> bool
-    requires { F.IsAlwaysCallable test.now }
-    ensures { (t : Item → Bool) → Computes F.Fn test.now t → result ≡ t entry.now.item }
-{
-    test(&entry.item)
-}
-
-// The front entry's item moves to the inbox, if it passes and there is room, and else the entry goes to the back.
-// Answers how many bytes moved.
-fn turn<F: Fn(&Item) -> bool>(
-    entries: &mut VecDeque<Entry>,
+// Passes the items on to the inbox, as far as it has room. Answers how many bytes they had.
+fn pass_on(
+    moved: &mut VecDeque<(Spot, Entry)>,
     index: &mut IndexMap<Key, usize>,
-    test: &F,
     inbox: &mut VecDeque<Item>,
 ) -> u32
-    requires { F.IsAlwaysCallable test.now }
-    ensures capacity { deque_capacity inbox.new ≡ deque_capacity inbox.old }
-    ensures counts { CountsKeys index.old entries.old.items → CountsKeys index.new entries.new.items }
-    ensures bytes { sum_by (λ k. k.len) entries.new.items + result ≡ sum_by (λ k. k.len) entries.old.items }
-    ensures moves { (t : Item → Bool) (k : HeldItem) (rest : List HeldItem) → Computes F.Fn test.now t → entries.old.items ≡ k ∷ rest
-        → t k.item ≡ true → deque_len inbox.old < deque_capacity inbox.old
-        → (entries.new.items ≡ rest) × (inbox.new.items ≡ inbox.old.items ++ k.item ∷ []) × (deque_len inbox.new ≡ deque_len inbox.old + 1) }
-    ensures keeps { (t : Item → Bool) (k : HeldItem) (rest : List HeldItem) → Computes F.Fn test.now t → entries.old.items ≡ k ∷ rest
-        → t k.item ≡ false
-        → (entries.new.items ≡ rest ++ k ∷ []) × (inbox.new.items ≡ inbox.old.items) × (deque_len inbox.new ≡ deque_len inbox.old) }
+    ensures counts { (others : List HeldItem) → CountsKeys index.old (held_in moved.old.items ++ others) → CountsKeys index.new others }
+    ensures bytes { sum_by (λ k. k.len) (held_in moved.old.items) < 2 ^ 32 → result ≡ sum_by (λ k. k.len) (held_in moved.old.items) }
+    ensures empty { moved.new.items ≡ [] }
+    ensures capacity { deque_capacity moved.new ≡ deque_capacity moved.old }
+    ensures room { deque_capacity inbox.new ≡ deque_capacity inbox.old }
+    ensures items { deque_len inbox.old + length moved.old.items ≤ deque_capacity inbox.old
+        → (inbox.new.items ≡ inbox.old.items ++ map (λ k. k.item) (held_in moved.old.items)) × (deque_len inbox.new ≡ deque_len inbox.old + length moved.old.items) }
 {
-    let Some(entry) = entries.pop_front() else {
-        return 0;
-    };
-    if passes(&entry, test) && inbox.len() < inbox.capacity() {
+    let mut bytes: u32 = 0;
+    while let Some((_, entry)) = moved.pop_front() {
         count_out(index, &Key::of(&entry.item));
-        let len = entry.len;
-        inbox.push_back_reserved(entry.item);
-        return len;
+        bytes = bytes.saturating_add(entry.len);
+        if inbox.len() < inbox.capacity() {
+            inbox.push_back_reserved(entry.item);
+        }
     }
-    entries.push_back_reserved(entry);
-    0
+    bytes
 }
 
-// The front entry is dropped, if it passes, and else goes to the back. Answers how many bytes were dropped.
-fn forget_turn<F: Fn(&Item) -> bool>(
-    entries: &mut VecDeque<Entry>,
-    index: &mut IndexMap<Key, usize>,
-    test: &F,
-) -> u32
-    requires { F.IsAlwaysCallable test.now }
-    ensures counts { CountsKeys index.old entries.old.items → CountsKeys index.new entries.new.items }
-    ensures bytes { sum_by (λ k. k.len) entries.new.items + result ≡ sum_by (λ k. k.len) entries.old.items }
-    ensures turns { (t : Item → Bool) (k : HeldItem) (rest : List HeldItem) → Computes F.Fn test.now t → entries.old.items ≡ k ∷ rest
-        → entries.new.items ≡ (if t k.item then rest else rest ++ k ∷ []) }
+// Keeps an item at a spot whose stamp no other has.
+fn keep(items: &mut BTreeMap<Spot, Entry>, spot: Spot, entry: Entry) -> Result<(), Mem>
+    ensures ok { (next : ℕ) → spot.stamp ≡ next → AreAt next items.old.entries
+        → OnOk result (Leaves (spot, entry) items.new.entries items.old.entries) }
+    ensures err { OnErr result (items.new.entries ≡ items.old.entries) }
 {
-    let Some(entry) = entries.pop_front() else {
-        return 0;
-    };
-    if passes(&entry, test) {
-        count_out(index, &Key::of(&entry.item));
-        return entry.len;
-    }
-    entries.push_back_reserved(entry);
-    0
+    items.insert(spot, entry)?;
+    Ok(())
 }
 
-/// The items that are held for one peer, in the order in which they came.
+// Whether the item is among these.
+fn holds(items: &BTreeMap<Spot, Entry>, item: &Item) -> bool
+    ensures { result ≡ list_any (λ k. is_same_item item.now k.item) (held_in items.now.entries) }
+{
+    for entry in items.values() {
+        if is_same(item, &entry.item) {
+            return true;
+        }
+    }
+    false
+}
+
+/// The items that are held for one peer, by groups.
 #[derive(Drop)]
 pub(crate) struct Peer {
-    entries: VecDeque<Entry>,
+    items: BTreeMap<Spot, Entry>,
     index: IndexMap<Key, usize>,
     bytes: u32,
+    // The stamp of the next item that is held.
+    next: u64,
 }
 
 impl Model for Peer {
@@ -109,11 +86,11 @@ impl Model for Peer {
 
     ghost Value = { List HeldItem };
 
-    ghost use Rattle.ooc_buffers.specs.Keys.{IsKeyIndexed};
+    ghost use Rattle.ooc_buffers.specs.Spots.{in_order, AreSpotted};
 
-    ghost view = { λ p. p.entries.items };
+    ghost view = { λ p. in_order p.items.entries };
 
-    ghost invariant = { λ p. IsKeyIndexed p.index p.bytes p.entries.items };
+    ghost invariant = { λ p. AreSpotted p.index p.bytes p.next p.items.entries };
 }
 
 // Whether it is the kind of columns.
@@ -123,21 +100,15 @@ fn is_column(kind: Kind) -> bool
     matches!(kind, Kind::Column)
 }
 
-// Whether two items of one peer are held as one.
-fn is_same(a: &Item, b: &Item) -> bool
-    ensures { result ≡ is_same_item a.now b.now }
-{
-    a.kind == b.kind && a.slot == b.slot && (a.kind != Kind::Column || a.value.is_same(&b.value))
-}
-
 impl Peer {
     pub(crate) fn new(alloc: Global) -> Peer
         ensures { result ≡ [] }
     {
         Peer {
-            entries: VecDeque::new(alloc),
+            items: BTreeMap::new(alloc),
             index: IndexMap::new(alloc),
             bytes: 0,
+            next: 0,
         }
     }
 
@@ -145,7 +116,7 @@ impl Peer {
     pub(crate) fn is_empty(&self) -> bool
         ensures { result ≡ not (nat_lt 0 (length self.now)) }
     {
-        self.entries.is_empty()
+        self.items.is_empty()
     }
 
     // How many bytes are held.
@@ -159,16 +130,13 @@ impl Peer {
     pub(crate) fn has(&self, item: &Item) -> bool
         ensures { result ≡ list_any (λ k. is_same_item item.now k.item) self.now }
     {
-        if self.entries.is_empty() {
-            return false;
-        }
         if count_of(&self.index, &Key::of(item)) == 0 {
             return false;
         }
         if !is_column(item.kind) {
             return true;
         }
-        self.entries.iter().any(|entry| is_same(item, &entry.item))
+        holds(&self.items, item)
     }
 
     // Holds the item behind the others.
@@ -177,47 +145,64 @@ impl Peer {
         ensures ok { OnOk result (self.new ≡ self.old ++ record { item = item; len = len } ∷ []) }
         ensures err { OnErr result (self.new ≡ self.old) }
     {
-        self.entries.reserve(1)?;
-        count_in(&mut self.index, Key::of(&item))?;
-        self.entries.push_back_reserved(Entry { item, len });
-        self.bytes += len;
-        Ok(())
+        let stamp = self.next;
+        let next = stamp.checked_add(1).ok_or(Mem)?;
+        let key = Key::of(&item);
+        let spot = Spot {
+            group: Group::of(&item),
+            bround: item.slot.bround,
+            stamp,
+        };
+        count_in(&mut self.index, key)?;
+        match keep(&mut self.items, spot, Entry { item, len }) {
+            Ok(()) => {
+                self.bytes += len;
+                self.next = next;
+                Ok(())
+            }
+            Err(fault) => {
+                count_out(&mut self.index, &key);
+                Err(fault)
+            }
+        }
     }
 
     // How many items pass the test.
-    pub(crate) fn count<F: Fn(&Item) -> bool>(&self, test: &F) -> usize
+    pub(crate) fn count<F: Fn(&Item) -> bool>(&self, walk: Walk, test: &F) -> Result<usize, Mem>
         requires { F.IsAlwaysCallable test.now }
-        ensures { (t : Item → Bool) → Computes F.Fn test.now t → result ≡ length (passing t self.now) }
+        ensures { (t right : Item → Bool) → Computes F.Fn test.now t → GoesBy walk right t → AreRight right self.now
+            → IfOk result (λ n. n ≡ length (passing t self.now)) }
     {
-        let mut found = 0;
-        for entry in self.entries.iter() {
-            if passes(entry, test) {
-                found += 1;
-            }
-        }
-        found
+        count_open(&self.items, walk, test)
     }
 
-    // Moves the items that pass the test behind those of the inbox, as far as it has room, and keeps the others.
-    pub(crate) fn release<F: Fn(&Item) -> bool>(&mut self, test: &F, inbox: &mut VecDeque<Item>)
-        requires { F.IsAlwaysCallable test.now }
+    // Moves the items that pass the test behind those of the inbox, by way of a list that is empty. Both have room.
+    pub(crate) fn release<F: Fn(&Item) -> bool>(
+        &mut self,
+        walk: Walk,
+        test: &F,
+        moved: &mut VecDeque<(Spot, Entry)>,
+        inbox: &mut VecDeque<Item>,
+    )
+        requires test { F.IsAlwaysCallable test.now }
+        requires empty { moved.old.items ≡ [] }
         ensures capacity { deque_capacity inbox.new ≡ deque_capacity inbox.old }
-        ensures moves { (t : Item → Bool) → Computes F.Fn test.now t
+        ensures empty { (moved.new.items ≡ []) × (deque_capacity moved.old ≤ deque_capacity moved.new) }
+        ensures moves { (t right : Item → Bool) → Computes F.Fn test.now t → GoesBy walk right t → AreRight right self.old
+            → length (passing t self.old) ≤ deque_capacity moved.old
             → deque_len inbox.old + length (passing t self.old) ≤ deque_capacity inbox.old
             → Releases t self.old self.new inbox.old inbox.new }
     {
-        for _turn in 0..self.entries.len() {
-            self.bytes -= turn(&mut self.entries, &mut self.index, test, inbox);
-        }
+        take_open(&mut self.items, walk, test, moved);
+        sort(moved);
+        self.bytes -= pass_on(moved, &mut self.index, inbox);
     }
 
     // Drops the items that pass the test.
-    pub(crate) fn forget<F: Fn(&Item) -> bool>(&mut self, test: &F)
+    pub(crate) fn forget<F: Fn(&Item) -> bool>(&mut self, walk: Walk, test: &F)
         requires { F.IsAlwaysCallable test.now }
-        ensures { (t : Item → Bool) → Computes F.Fn test.now t → self.new ≡ failing t self.old }
+        ensures { (t right : Item → Bool) → Computes F.Fn test.now t → GoesBy walk right t → AreRight right self.old → self.new ≡ failing t self.old }
     {
-        for _turn in 0..self.entries.len() {
-            self.bytes -= forget_turn(&mut self.entries, &mut self.index, test);
-        }
+        self.bytes -= drop_open(&mut self.items, &mut self.index, walk, test);
     }
 }

@@ -1,8 +1,7 @@
 -- What each outcome of a step is, as the abstract core has it.
-use Rattle.std.proofs.Common.{◌≡◌, Bool, true, false, not, cond, Option, Result, Ok, Err, List, [], ◌++◌, refl, sym, ◌∙◌, ap, subst, inl, inr, append-nil}
+use Rattle.std.proofs.Common.{◌≡◌, Bool, true, false, not, cond, Option, None, Result, Ok, Err, List, [], ◌++◌, refl, sym, ◌∙◌, ap, subst, inl, inr, append-nil}
 use Rattle.ritas_base.specs.declared.item.Item.{Item}
 use Rattle.ritas_base.specs.declared.item.Msg.{Msg}
-use Rattle.layer_api.specs.declared.broadcast.Heard.TheVariants as heard
 use Rattle.ritas_core.specs.declared.answer.Answer.{Answer}
 use Rattle.ritas_core.specs.declared.answer.Answer.TheVariants as answers
 use Rattle.ritas_core.specs.declared.fault.CoreFault.{CoreFault}
@@ -121,7 +120,7 @@ module _ {S E C T : Type 0} (m : Meaning S E C T) where
       refl (enters_it.out st is may) (enters_it.state st is may)
 
   -- the layers may have changed, and stand for the same
-  stays_core : MeansWell m → (old new : Core S E C T) (item : Item) (made : List Msg) (st : CoreState) → GivesLayers m old new item made (Ok heard.Repeat) → IsLive m old st →
+  stays_core : MeansWell m → (old new : Core S E C T) (item : Item) (made : List Msg) (st : CoreState) → GivesLayers m old new item made (Ok None) → IsLive m old st →
       CoreStands m new (rules_in m old) st
   stays_core well old new item made st gives_it is =
       let same = same_rules m old.layers new.layers gives_it.seat in
@@ -149,9 +148,10 @@ module _ {S E C T : Type 0} (m : Meaning S E C T) where
         peers = is.stands.peers;
         good_inbox = is.stands.good_inbox;
         good_held = is.stands.good_held;
+        waiting = is.stands.waiting;
       })
 
-  pub repeat_does : MeansWell m → (old new : Core S E C T) (item : Item) (made sent : List Msg) → GivesLayers m old new item made (Ok heard.Repeat) →
+  pub repeat_does : MeansWell m → (old new : Core S E C T) (item : Item) (made sent : List Msg) → GivesLayers m old new item made (Ok None) →
       DoesJudged m old new verdicts.Take item sent sent (Ok answers.Repeat)
   repeat_does well old new item made sent gives_it st is good judged =
       let r = rules_in m old in

@@ -7,6 +7,8 @@ use Rattle.ritas_base.specs.declared.mode.Mode.{Mode}
 use Rattle.ritas_base.specs.Numbers.{Numbers}
 use Rattle.layer_api.specs.Words.{Ask, Hear}
 use Rattle.ooc_buffers.specs.Lists.{HeldItem, failing, released, remaining}
+use Rattle.ritas_core.specs.declared.change.Change.{Change}
+use Rattle.ritas_core.specs.declared.change.Change.TheVariants as changes
 use Rattle.ritas_core.specs.declared.layers.Layers.{Layers}
 use Rattle.ritas_core.specs.declared.kernel.Core.{Core}
 use Rattle.ritas_core.specs.Rules.{Rules, casts_by, seat_of}
@@ -17,8 +19,9 @@ use Rattle.ritas_core.specs.Order.{ordered, own_items, new_messages}
 use Rattle.ritas_core.specs.Checks.{is_open, is_item_past, IsTakable, IsGivable, MayEnter, IsHistory}
 use Rattle.ritas_core.specs.Machine.{CoreState, What, with_entry, state_after_entry}
 use Rattle.ritas_core.specs.Stands.{Meaning, rules_of, LayersStand, LayersShow, CoreStands}
-use Rattle.ritas_core.specs.LayerCalls.{SameSeat, KeepsOutputs, MayTell, MayFollow, CanTakeItem, CanTell, TellsLayers, TakesItem, is_past_in, is_open_in}
+use Rattle.ritas_core.specs.LayerCalls.{SameSeat, KeepsOutputs, MayTell, MayFollow, CanTakeItem, CanTell, TellsLayers, TakesSo, is_past_in, is_open_in}
 use Rattle.ritas_core.specs.Calls.{entry_of_call, stopped}
+use Rattle.ritas_core.specs.Waiting.{MayLeave}
 use Rattle.ritas_core.specs.CoreCalls.{rules_in, IsLive, Finishes, Withdraws, StopsCore, EntersCore}
 use Rattle.ritas_core.specs.Laws.{LayerLaws}
 use Rattle.ritas_core.proofs.GoodSlots.{slot_origin}
@@ -27,6 +30,7 @@ use Rattle.ritas_core.proofs.Conditions.{words_proper, may_start_given, may_hear
 use Rattle.ritas_core.proofs.ShownCasts.{out_started}
 use Rattle.ritas_core.proofs.Keeping.{outputs_same}
 use Rattle.ritas_core.proofs.HeldSteps.{open_near}
+use Rattle.ritas_core.proofs.Waiting.{OpensWell, HeldChange, each_fails, may_leave, held_by}
 use Rattle.ritas_core.proofs.Goodness.{good_remaining, entered_inbox_good, entered_held_good}
 use Rattle.ritas_core.proofs.HeldSteps.{released_same, remaining_same, remaining_twice, past_same, open_same}
 
@@ -83,6 +87,7 @@ module _ {S E C T : Type 0} (m : Meaning S E C T) where
         peers = stands.peers;
         good_inbox = stands.good_inbox;
         good_held = stands.good_held;
+        waiting = stands.waiting;
       }
 
 module _ {S E C T : Type 0} (m : Meaning S E C T) (well : MeansWell m) where
@@ -90,19 +95,25 @@ module _ {S E C T : Type 0} (m : Meaning S E C T) (well : MeansWell m) where
   laws_of layers core st = layer_laws m well.values well.words core (rules_of m layers) st
 
   -- an entry of the layers, sent in order, is an entry of the core
-  module _ (old new : Core S E C T) (mid : Layers S E C T) (e : Entry) (made before after_it : List Msg) (st : CoreState)
-      (fin : Finishes m (record old { layers = mid }) new made before after_it)
+  module _ (opening : OpensWell m) (old new : Core S E C T) (mid : Layers S E C T) (change : Change) (e : Entry) (made before after_it : List Msg) (st : CoreState)
+      (fin : Finishes m change (record old { layers = mid }) new made before after_it)
       (tagger : mid.tagger ≡ old.layers.tagger)
       (stands : CoreStands m old (rules_of m mid) st) (live : st.live ≡ true)
       (may : MayEnter (rules_of m mid) (parts (rules_of m mid) st.history) e)
       (stood : LayersStand m mid (parts_after (rules_of m mid) e (parts (rules_of m mid) st.history)))
       (puts : OutputsStand (rules_of m mid).mode.root (rules_of m mid).casts mid.outputs (parts_after (rules_of m mid) e (parts (rules_of m mid) st.history)).calls)
-      (made_is : made ≡ made_by (rules_of m mid) e (parts (rules_of m mid) st.history)) where
+      (made_is : made ≡ made_by (rules_of m mid) e (parts (rules_of m mid) st.history))
+      (only : HeldChange change e (rules_of m mid) (parts (rules_of m mid) st.history)) where
+    leaves : MayLeave m change mid (parts (rules_of m mid) (e ∷ st.history)) old.held
+    leaves =
+        subst (λ (hs : List (List HeldItem)). MayLeave m change mid (parts (rules_of m mid) (e ∷ st.history)) hs) (sym stands.held)
+        (may_leave m opening mid (laws_of mid old st stands) st.history e change may only stood st.held stands.good_held stands.waiting)
+
     new_inbox : new.inbox.items ≡ (state_after_entry (rules_of m mid) st e st.inbox).inbox
     new_inbox =
         let r = rules_of m mid in
         let p = parts r (e ∷ st.history) in
-        fin.inbox p stood
+        fin.inbox p stood leaves
         ∙ ap (λ (xs : List Item). (xs ++ own_items mid.me (ordered made)) ++ released (is_open_in m mid p) old.held) stands.inbox
         ∙ ap (λ (ms : List Msg). (st.inbox ++ own_items mid.me (ordered ms)) ++ released (is_open_in m mid p) old.held) made_is
         ∙ ap (λ (hs : List (List HeldItem)). (st.inbox ++ own_items mid.me (new_messages r st.history e)) ++ released (is_open_in m mid p) hs) stands.held
@@ -114,7 +125,7 @@ module _ {S E C T : Type 0} (m : Meaning S E C T) (well : MeansWell m) where
         let r = rules_of m mid in
         let p = parts r (e ∷ st.history) in
         let laws = laws_of mid old st stands in
-        fin.held p stood
+        fin.held p stood leaves
         ∙ ap (λ (hs : List (List HeldItem)). remaining (λ x. is_past_in m mid p x.slot) (remaining (is_open_in m mid p) hs)) stands.held
         ∙ ap (λ (hs : List (List HeldItem)). remaining (λ x. is_past_in m mid p x.slot) hs)
         (remaining_same r (is_open_in m mid p) (is_open r p) (open_same m mid laws p stood) st.held stands.good_held)
@@ -153,17 +164,18 @@ module _ {S E C T : Type 0} (m : Meaning S E C T) (well : MeansWell m) where
             peers = length-map st.held (failing (λ x. is_open r (parts r (e ∷ st.history)) x || is_item_past r (parts r (e ∷ st.history)) x)) ∙ stands.peers;
             good_inbox = entered_inbox_good r laws st e st.inbox (may, stands.history) stands.good_inbox stands.good_held;
             good_held = entered_held_good r st e st.inbox stands.good_held;
+            waiting = each_fails (λ x. is_open r (parts r (e ∷ st.history)) x || is_item_past r (parts r (e ∷ st.history)) x) st.held;
           },
           fin.out ∙ ap (λ (ms : List Msg). before ++ ordered ms) made_is,
         )
 
   -- the same for the rules that the layers had before
-  module _ (old new : Core S E C T) (mid : Layers S E C T) (seat : SameSeat old.layers mid) (e : Entry) (made before after_it : List Msg)
-      (fin : Finishes m (record old { layers = mid }) new made before after_it) where
+  module _ (opening : OpensWell m) (old new : Core S E C T) (mid : Layers S E C T) (seat : SameSeat old.layers mid) (change : Change) (e : Entry) (made before after_it : List Msg)
+      (fin : Finishes m change (record old { layers = mid }) new made before after_it) where
     abbrev Enough : CoreState → Rules → Type 0
     Enough st r = CoreStands m old r st × MayEnter r (parts r st.history) e × LayersStand m mid (parts_after r e (parts r st.history))
         × OutputsStand r.mode.root r.casts mid.outputs (parts_after r e (parts r st.history)).calls
-        × (made ≡ made_by r e (parts r st.history))
+        × (made ≡ made_by r e (parts r st.history)) × HeldChange change e r (parts r st.history)
 
     abbrev Done : CoreState → Rules → Type 0
     Done st r = CoreStands m new r (state_after_entry r st e st.inbox) × (after_it ≡ before ++ new_messages r st.history e)
@@ -172,7 +184,7 @@ module _ {S E C T : Type 0} (m : Meaning S E C T) (well : MeansWell m) where
     enters_from st live enough =
         let there = subst (λ (r : Rules). Enough st r) (sym (same_rules m old.layers mid seat)) enough in
         subst (λ (r : Rules). Done st r) (same_rules m old.layers mid seat)
-        (enters_at old new mid e made before after_it st fin seat.tagger there.0 live there.1 there.2 there.3 there.4)
+        (enters_at opening old new mid change e made before after_it st fin seat.tagger there.0 live there.1 there.2 there.3 there.4 there.5)
 
   pub can_take : (old : Core S E C T) (item : Item) (st : CoreState) → IsLive m old st → IsTakable (rules_in m old) (parts (rules_in m old) st.history) item →
       CanTakeItem m old.layers item (parts (rules_in m old) st.history)
@@ -208,21 +220,23 @@ module _ {S E C T : Type 0} (m : Meaning S E C T) (well : MeansWell m) where
       }
 
   -- an item that was taken
-  pub enters_item : (old new : Core S E C T) (mid : Layers S E C T) (item : Item) (start made before after_it : List Msg) → start ≡ [] →
-      SameSeat old.layers mid → TakesItem m old.layers mid item start made → Finishes m (record old { layers = mid }) new made before after_it →
+  pub enters_item : OpensWell m → (old new : Core S E C T) (mid : Layers S E C T) (item : Item) (change : Change) (start made before after_it : List Msg) → start ≡ [] →
+      SameSeat old.layers mid → TakesSo m old.layers mid item start made change → Finishes m change (record old { layers = mid }) new made before after_it →
       EntersCore m old new (Took item) before after_it
-  enters_item old new mid item start made before after_it none seat takes fin =
+  enters_item opening old new mid item change start made before after_it none seat so fin =
       let r = rules_in m old in
-      let done : (st : CoreState) → IsLive m old st → IsTakable r (parts r st.history) item → Done old new mid seat (Took item) made before after_it fin st r = λ st is may.
+      let takes = so.takes in
+      let done : (st : CoreState) → IsLive m old st → IsTakable r (parts r st.history) item → Done opening old new mid seat change (Took item) made before after_it fin st r = λ st is may.
       let follow = may_follow r (laws_of old.layers old st is.stands) st.history is.stands.history item may in
       let can = can_take old item st is may in
       let proper = words_proper r (laws_of old.layers old st is.stands) st.history is.stands.history in
-      enters_from old new mid seat (Took item) made before after_it fin st is.live (
+      enters_from opening old new mid seat change (Took item) made before after_it fin st is.live (
         is.stands,
         may,
         takes.grows (parts r st.history) can follow proper,
         takes.outputs (parts r st.history) can (is.stands.outputs is.live),
         takes.made (parts r st.history) can follow proper ∙ ap (λ (ms : List Msg). ms ++ made_by r (Took item) (parts r st.history)) none,
+        held_by m old.layers item change (parts r st.history) can so.only,
       ) in
       record { state = λ st is may. (done st is may).0; out = λ st is may. (done st is may).1 }
 
@@ -247,19 +261,20 @@ module _ {S E C T : Type 0} (m : Meaning S E C T) (well : MeansWell m) where
       (is.stands.outputs is.live)
 
   -- an input that was taken
-  pub enters_input : (old new : Core S E C T) (mid : Layers S E C T) (value : List ℕ) (start made before after_it : List Msg) → start ≡ [] →
+  pub enters_input : OpensWell m → (old new : Core S E C T) (mid : Layers S E C T) (value : List ℕ) (start made before after_it : List Msg) → start ≡ [] →
       SameSeat old.layers mid → KeepsOutputs old.layers mid → TellsLayers m old.layers mid (Ask value) start made →
-      Finishes m (record old { layers = mid }) new made before after_it → EntersCore m old new (Given value) before after_it
-  enters_input old new mid value start made before after_it none seat kept tells fin =
+      Finishes m changes.Service (record old { layers = mid }) new made before after_it → EntersCore m old new (Given value) before after_it
+  enters_input opening old new mid value start made before after_it none seat kept tells fin =
       let r = rules_in m old in
-      let done : (st : CoreState) → IsLive m old st → IsGivable r (parts r st.history) value → Done old new mid seat (Given value) made before after_it fin st r = λ st is may.
+      let done : (st : CoreState) → IsLive m old st → IsGivable r (parts r st.history) value → Done opening old new mid seat changes.Service (Given value) made before after_it fin st r = λ st is may.
       let can = can_tell old value st is may in
       let proper = words_proper r (laws_of old.layers old st is.stands) st.history is.stands.history in
-      enters_from old new mid seat (Given value) made before after_it fin st is.live (
+      enters_from opening old new mid seat changes.Service (Given value) made before after_it fin st is.live (
         is.stands,
         may,
         tells.grows (parts r st.history) can proper,
         input_outputs old mid value st is kept,
         tells.made (parts r st.history) can proper ∙ ap (λ (ms : List Msg). ms ++ made_by r (Given value) (parts r st.history)) none,
+        tt,
       ) in
       record { state = λ st is may. (done st is may).0; out = λ st is may. (done st is may).1 }

@@ -28,6 +28,8 @@ failed_none false x rest e = absurd (cc)
 record Fields (p : Numbers) (s : Slot) : Type 0 where
   class : within 1 5 s.class ≡ true
   number : s.a < 1000000
+  round : has_count 200 s.class s.bround ≡ true
+  step : has_count 3 s.class s.step ≡ true
   origin : s.origin < p.n
 
 fields : (p : Numbers) (mode : Mode) (s : Slot) → slot_fault p mode s ≡ None → Fields p s
@@ -46,7 +48,7 @@ fields p mode s e =
     let g = failed_none (has_count 200 s.class s.bround) faults.Round rest5 d.1 in
     let h = failed_none (has_count 3 s.class s.step) faults.Step rest6 g.1 in
     let k = failed_none (ltb s.origin p.n) faults.Origin [] h.1 in
-    record { class = a.0; number = ltb-true s.a 1000000 (left_true _ _ c.0); origin = ltb-true s.origin p.n k.0 }
+    record { class = a.0; number = ltb-true s.a 1000000 (left_true _ _ c.0); round = g.0; step = h.0; origin = ltb-true s.origin p.n k.0 }
 
 -- it has one of the classes, its number is below a million, and its origin is a replica
 pub slot_class : (p : Numbers) (mode : Mode) (s : Slot) → slot_fault p mode s ≡ None → within 1 5 s.class ≡ true
@@ -57,6 +59,10 @@ slot_number p mode s e = (fields p mode s e).number
 
 pub slot_origin : (p : Numbers) (mode : Mode) (s : Slot) → slot_fault p mode s ≡ None → s.origin < p.n
 slot_origin p mode s e = (fields p mode s e).origin
+
+-- it has rounds and steps where its class has them
+pub slot_counts : (p : Numbers) (mode : Mode) (s : Slot) → slot_fault p mode s ≡ None → (has_count 200 s.class s.bround ≡ true) × (has_count 3 s.class s.step ≡ true)
+slot_counts p mode s e = let it = fields p mode s e in (it.round, it.step)
 
 -- the broadcast of a slot with no fault is the slot's
 pub of_slot : (r : Rules) → LayerLaws r → (s : Slot) → slot_fault r.casts.numbers r.mode s ≡ None → IsOfSlot (r.casts.at_slot s) r.casts.numbers r.mode s

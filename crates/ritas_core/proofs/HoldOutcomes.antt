@@ -14,10 +14,12 @@ use Rattle.ritas_core.specs.Rules.{Rules}
 use Rattle.ritas_core.specs.Parts.{Entry, parts}
 use Rattle.ritas_core.specs.Checks.{body_length, has_room, verdict_on, IsGood}
 use Rattle.ritas_core.specs.Machine.{CoreState, Frame, with_entry, stays, gives_item}
-use Rattle.ritas_core.specs.Stands.{Meaning, LayersShow, CoreStands}
+use Rattle.ritas_core.specs.Stands.{Meaning, LayersShow, CoreStands, Waits}
 use Rattle.ritas_core.specs.CoreCalls.{rules_in, IsLive, Judged, DoesJudged}
 use Rattle.ritas_core.proofs.Goodness.{good_with_kept}
 use Rattle.ritas_core.proofs.Items.{with_items}
+use Rattle.ritas_core.proofs.Waiting.{each_with}
+use Rattle.ritas_core.proofs.Verdicts.{hold_waits}
 use Rattle.ritas_core.proofs.CallSteps.{nothing_more, frame_moves, moves_by}
 
 -- there is room where no fault says otherwise
@@ -49,7 +51,7 @@ module _ {S E C T : Type 0} (m : Meaning S E C T) where
   stays_held : (old : Core S E C T) (h : List (List HeldItem)) (r : Rules) (st : CoreState) → h ≡ old.held → CoreStands m old r st →
       CoreStands m (record old { held = h }) r st
   stays_held old h r st same stands =
-      with_items m old old.inbox h r st st.inbox st.held stands.inbox (same ∙ stands.held) stands.peers stands.good_inbox stands.good_held stands
+      with_items m old old.inbox h r st st.inbox st.held stands.inbox (same ∙ stands.held) stands.peers stands.good_inbox stands.good_held stands.waiting stands
 
   module _ (old : Core S E C T) (item : Item) (len : ℕ) (h : List (List HeldItem)) (sent : List Msg)
       (counted : IsGood (rules_in m old) item → len ≡ body_length item) where
@@ -96,6 +98,8 @@ module _ {S E C T : Type 0} (m : Meaning S E C T) where
           peers = length-set st.held item.from (held_of_peer st.held item.from ++ record { item = item; len = body_length item } ∷ []) ∙ s.peers;
           good_inbox = s.good_inbox;
           good_held = good_with_kept r st.held item (body_length item) s.good_held good;
+          waiting = each_with (Waits r (parts r st.history)) st.held item (body_length item) s.waiting
+              (hold_waits r (parts r st.history) st.held item (verdict_held st true is good judged (le-leb _ _ room)));
         })
 
     pub full_does : (bytes : ℕ) → h ≡ old.held → bytes ≡ held_bytes old.held item.from → most_held_bytes < bytes + len →

@@ -1,5 +1,5 @@
 -- An item that delivers, and then what the service says to that.
-use Rattle.std.proofs.Common.{◌≡◌, ℕ, Bool, false, cond, Option, Some, None, Ok, List, ◌++◌, refl, subst, sym, ap, ◌∙◌, append-nil}
+use Rattle.std.proofs.Common.{◌≡◌, ℕ, Bool, true, false, cond, Option, Some, None, Ok, List, ◌++◌, refl, subst, sym, ap, ◌∙◌, append-nil}
 use Rattle.std.proofs.Math.Dec.{leb}
 use Rattle.std.specs.BTreeMap as map
 use Rattle.ritas_base.specs.declared.slot.Slot.{Slot}
@@ -10,6 +10,9 @@ use Rattle.ritas_base.specs.History.{Take}
 use Rattle.layer_api.specs.OneValue.{ValueLaws}
 use Rattle.layer_api.specs.Words.{Hear}
 use Rattle.instance_tree.specs.SlotMaps.{SlotMap}
+use Rattle.frame_codec.specs.Body.{is_of_form}
+use Rattle.ritas_core.specs.declared.change.Change.{Change}
+use Rattle.ritas_core.specs.declared.change.Change.TheVariants as changes
 use Rattle.ritas_core.specs.declared.layers.Layers.{Layers}
 use Rattle.ritas_core.specs.declared.cast.Cast.{Cast}
 use Rattle.ritas_core.specs.declared.taken.Taken.{Taken}
@@ -23,7 +26,7 @@ use Rattle.ritas_core.specs.CastCalls.{CastsTake, CastsHear}
 use Rattle.ritas_core.specs.Parts.{Parts, told_news, heard_at, heard_news, taken_at, item_delivers, parts_after, made_by}
 use Rattle.ritas_core.specs.Parts as entry
 use Rattle.ritas_core.specs.Stands.{Meaning, rules_of, LayersStand, LayersShow}
-use Rattle.ritas_core.specs.LayerCalls.{MayFollow, SameSeat, KeepsOutputs, CanTakeItem, CanTell, TellsLayers, TellsNoLayer, TakesItem, RepeatsItem, LayersTakeNone}
+use Rattle.ritas_core.specs.LayerCalls.{MayFollow, SameSeat, KeepsOutputs, CanTakeItem, CanTell, TellsLayers, TellsNoLayer, TakesItem, TakesSo, RepeatsItem, DeliversNone, ChangesOnly, quiet_change, LayersTakeNone}
 use Rattle.ritas_core.proofs.Starts.{appended_more}
 use Rattle.ritas_core.proofs.ShownLayers.{MeansWell, heard_fails, layers_later, take_part, can_give, out_heard}
 use Rattle.ritas_core.proofs.CoreSteps.{same_rules}
@@ -60,13 +63,17 @@ module _ {S E C T : Type 0} (m : Meaning S E C T) (well : MeansWell m) where
       }
 
   -- ---- an item that delivers nothing
+  delivers_none : (old : Layers S E C T) (casts : SlotMap (Cast E)) (item : Item) (before after_it : List Msg) (taken : Taken) → taken ≡ Took None →
+      TookSo old casts item before after_it taken → DeliversNone m old item
+  delivers_none old casts item before after_it taken is took = λ p can.
+      (taken_as old casts item before after_it taken (Took None) is took (is_dropped (rules_of m old) p.words)).delivered p.calls (can_give m well old item p can)
+
   pub quiet_item : (old : Layers S E C T) (casts : SlotMap (Cast E)) (item : Item) (before after_it : List Msg) (taken : Taken) → taken ≡ Took None →
       TookSo old casts item before after_it taken → TakesItem m old (record old { casts = casts }) item before after_it
   quiet_item old casts item before after_it taken is took =
       let r = rules_of m old in
       let takes = taken_as old casts item before after_it taken (Took None) is took in
-      let quiet : (p : Parts) → CanTakeItem m old item p → item_delivers r item p ≡ None = λ p can.
-      (takes (is_dropped r p.words)).delivered p.calls (can_give m well old item p can) in
+      let quiet = delivers_none old casts item before after_it taken is took in
       record {
         grows = λ p can may proper.
             subst (λ (d : Option (List ℕ)). LayersStand m (record old { casts = casts }) (heard_at r item.slot d (taken_at item p))) (sym (quiet p can)) (record {
@@ -85,6 +92,18 @@ module _ {S E C T : Type 0} (m : Meaning S E C T) (well : MeansWell m) where
             (out_quiet r.casts (laws_in old) p.calls item.slot (Take item) (quiet p can)) stood);
         counts = λ p can. (takes (is_dropped r p.words)).counts p.calls (can_give m well old item p can);
       }
+
+  -- and what it changes goes by its kind
+  only_by : (old : Layers S E C T) (item : Item) (b : Bool) → is_of_form 2 item.kind ≡ b → DeliversNone m old item → ChangesOnly m old item (cond b changes.Columns changes.Cast)
+  only_by old item true is quiet = quiet
+  only_by old item false is quiet = (quiet, is)
+
+  pub quiet_so : (old : Layers S E C T) (casts : SlotMap (Cast E)) (item : Item) (before after_it : List Msg) (taken : Taken) → taken ≡ Took None →
+      TookSo old casts item before after_it taken → (change : Change) → change ≡ quiet_change item.kind → TakesSo m old (record old { casts = casts }) item before after_it change
+  quiet_so old casts item before after_it taken is took change by = record {
+    takes = quiet_item old casts item before after_it taken is took;
+    only = subst (λ (x : Change). ChangesOnly m old item x) (sym by) (only_by old item (is_of_form 2 item.kind) refl (delivers_none old casts item before after_it taken is took));
+  }
 
   -- ---- an item that delivers
   module _ (old new : Layers S E C T) (casts : SlotMap (Cast E)) (item : Item)

@@ -21,6 +21,7 @@ pub mod ShownLayers
 pub mod Means
 pub mod SendSteps
 pub mod HeldSteps
+pub mod Waiting
 pub mod Items
 pub mod CoreSteps
 pub mod LayerSteps

@@ -103,6 +103,23 @@ pub verdict_full : (r : Rules) (p : Parts) (held : List (List HeldItem)) (item :
     has_room held item ≡ false → verdict_on r p held item ≡ verdicts.Refuse (faults.HeldFull (held_bytes held item.from))
 verdict_full r p held item a b c d e f g = verdict_by r p held item _ _ _ _ _ _ _ a b c d e f g
 
+-- an item that is to be held is neither open nor past
+waits_by : (a b past ahead again opened room : Bool) (mark bytes : ℕ) → by_tests a b past ahead again opened room mark bytes ≡ verdicts.Hold → (opened || past) ≡ false
+waits_by true b past ahead again opened room mark bytes is = absurd (cc)
+waits_by false true past ahead again opened room mark bytes is = absurd (cc)
+waits_by false false true ahead again opened room mark bytes is = absurd (cc)
+waits_by false false false true again opened room mark bytes is = absurd (cc)
+waits_by false false false false true opened room mark bytes is = absurd (cc)
+waits_by false false false false false true room mark bytes is = absurd (cc)
+waits_by false false false false false false room mark bytes is = refl
+
+pub hold_waits : (r : Rules) (p : Parts) (held : List (List HeldItem)) (item : Item) → verdict_on r p held item ≡ verdicts.Hold →
+    (is_open r p item || is_item_past r p item) ≡ false
+hold_waits r p held item is =
+    waits_by (is_not_origin item) (is_not_for r.casts.me item) (is_item_past r p item) (is_item_ahead r p item) (is_repeat r p held item) (is_open r p item)
+    (has_room held item) (mark_of r p item.slot) (held_bytes held item.from)
+    (sym (verdict_by r p held item _ _ _ _ _ _ _ refl refl refl refl refl refl refl) ∙ is)
+
 -- the tests of what is looked up, and of what is open
 pub is_found_by : (r : Rules) (p : Parts) (held : List (List HeldItem)) (item : Item) (opened again column kept : Bool) →
     is_open r p item ≡ opened → is_taken_again r p item ≡ again → kind_eq item.kind Column ≡ column → is_held held item ≡ kept →

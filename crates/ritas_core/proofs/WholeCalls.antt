@@ -90,7 +90,7 @@ module _ {S E C T : Type 0} (m : Meaning S E C T) where
       CoreStands m mid r (record st { inbox = item ∷ st.inbox }) → CoreStands m (record mid { inbox = q }) r st
   front_leaves mid q r st item popped stands =
       with_items m mid q mid.held r (record st { inbox = item ∷ st.inbox }) st.inbox st.held (popped ∙ ap (λ (xs : List Item). drop 1 xs) stands.inbox)
-      stands.held stands.peers stands.good_inbox.1 stands.good_held stands
+      stands.held stands.peers stands.good_inbox.1 stands.good_held stands.waiting stands
 
   module _ (old mid : Core S E C T) (item : Item) (rest : List Item) (before after_it : List Msg) (r : Rules) (st : CoreState)
       (live : st.live ≡ true) (whole : st.inbox ≡ item ∷ rest) where
@@ -186,6 +186,7 @@ module _ {S E C T : Type 0} (m : Meaning S E C T) where
             peers = is.stands.peers;
             good_inbox = is.stands.good_inbox;
             good_held = is.stands.good_held;
+            waiting = is.stands.waiting;
           }))
       leaves_by st is (item ∷ rest) whole =
           let r = rules_in m old in

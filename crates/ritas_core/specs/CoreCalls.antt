@@ -3,7 +3,6 @@ use Rattle.std.specs.Prelude.{◌≡◌, ℕ, ◌<◌, Bool, true, false, List, 
 use Rattle.ritas_base.specs.declared.bytes.Mem.{Mem}
 use Rattle.ritas_base.specs.declared.item.Item.{Item}
 use Rattle.ritas_base.specs.declared.item.Msg.{Msg}
-use Rattle.layer_api.specs.declared.broadcast.Heard.{Heard}
 use Rattle.layer_api.specs.Broadcast.{MayTake}
 use Rattle.ooc_buffers.specs.Lists.{HeldItem, is_held, held_bytes, released, remaining}
 use Rattle.ritas_core.specs.declared.answer.Answer.{Answer}
@@ -12,6 +11,7 @@ use Rattle.ritas_core.specs.declared.fault.CoreFault.{CoreFault}
 use Rattle.ritas_core.specs.declared.fault.CoreFault.TheVariants as faults
 use Rattle.ritas_core.specs.declared.verdict.Verdict.{Verdict}
 use Rattle.ritas_core.specs.declared.verdict.Verdict.TheVariants as verdicts
+use Rattle.ritas_core.specs.declared.change.Change.{Change}
 use Rattle.ritas_core.specs.declared.kernel.Core.{Core}
 use Rattle.ritas_core.specs.Rules.{Rules, place_at}
 use Rattle.ritas_core.specs.Casts.{OutputsShow}
@@ -21,6 +21,7 @@ use Rattle.ritas_core.specs.Checks.{is_open, is_taken_again, has_room, verdict_o
 use Rattle.ritas_core.specs.Machine.{CoreState, What, Frame, state_after_entry, MayGive}
 use Rattle.ritas_core.specs.Stands.{Meaning, rules_of, LayersStand, LayersShow, CoreStands}
 use Rattle.ritas_core.specs.LayerCalls.{SameSeat, GivesItem, is_past_in, is_open_in}
+use Rattle.ritas_core.specs.Waiting.{MayLeave}
 use Rattle.ritas_core.specs.Judging.{judged_in}
 use Rattle.ritas_core.specs.Calls.{Does}
 
@@ -33,14 +34,15 @@ pub record IsLive {S E C T : Type 0} (m : Meaning S E C T) (core : Core S E C T)
   pub stands : CoreStands m core (rules_in m core) st
   pub live : st.live ≡ true
 
--- the messages are put out in their order, what comes to oneself joins the inbox, and then what is open
-pub record Finishes {S E C T : Type 0} (m : Meaning S E C T) (old new : Core S E C T) (made before after : List Msg) : Type 0 where
+-- The messages are put out in their order, what comes to oneself joins the inbox, and then what is open. Held items leave where
+-- they may by what changed.
+pub record Finishes {S E C T : Type 0} (m : Meaning S E C T) (change : Change) (old new : Core S E C T) (made before after : List Msg) : Type 0 where
   pub layers : new.layers ≡ old.layers
   pub stopped : new.stopped ≡ old.stopped
   pub out : after ≡ before ++ ordered made
-  pub inbox : (p : Parts) → LayersStand m old.layers p
+  pub inbox : (p : Parts) → LayersStand m old.layers p → MayLeave m change old.layers p old.held
       → new.inbox.items ≡ (old.inbox.items ++ own_items old.layers.me (ordered made)) ++ released (is_open_in m old.layers p) old.held
-  pub held : (p : Parts) → LayersStand m old.layers p
+  pub held : (p : Parts) → LayersStand m old.layers p → MayLeave m change old.layers p old.held
       → new.held ≡ remaining (λ x. is_past_in m old.layers p x.slot) (remaining (is_open_in m old.layers p) old.held)
 
 -- for want of memory nothing is put out, and all is as it was
@@ -99,13 +101,13 @@ DoesJudged m old new verdict item before after result = (st : CoreState) → IsL
     → Does m old new (Frame item) before after result (rules_in m old) st
 
 -- the layers of a core were given an open item, and nothing else changed
-pub record GivesLayers {S E C T : Type 0} (m : Meaning S E C T) (old new : Core S E C T) (item : Item) (made : List Msg) (result : Result Heard Mem) : Type 0 where
+pub record GivesLayers {S E C T : Type 0} (m : Meaning S E C T) (old new : Core S E C T) (item : Item) (made : List Msg) (result : Result (Option Change) Mem) : Type 0 where
   pub seat : SameSeat old.layers new.layers
   pub rest : new ≡ record old { layers = new.layers }
   pub given : GivesItem m old.layers new.layers item [] made result
 
 -- passing on what the layers made of it is the rest of the call
-abbrev pub PassesOn : {S E C T : Type 0} → Meaning S E C T → Core S E C T → Core S E C T → Result Heard Mem → List Msg → List Msg → List Msg → Result Answer CoreFault → Type 0
+abbrev pub PassesOn : {S E C T : Type 0} → Meaning S E C T → Core S E C T → Core S E C T → Result (Option Change) Mem → List Msg → List Msg → List Msg → Result Answer CoreFault → Type 0
 PassesOn {S} {E} {C} {T} m mid new heard made before after result = (old : Core S E C T) (item : Item) → GivesLayers m old mid item made heard
     → DoesJudged m old new verdicts.Take item before after result
 

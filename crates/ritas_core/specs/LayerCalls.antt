@@ -1,19 +1,21 @@
 -- What calls on the layers do, for all parts that they stand for. Each list has the newest first.
-use Rattle.std.specs.Prelude.{◌≡◌, ℕ, ◌<◌, nat_lt, Bool, true, false, not, ◌&&◌, Option, Some, None, Result, Ok, Err, List, ◌++◌}
+use Rattle.std.specs.Prelude.{◌≡◌, ℕ, ◌<◌, nat_lt, Bool, true, false, not, ◌&&◌, Option, Some, None, Result, Ok, Err, List, ◌++◌, if◌then◌else◌}
 use Rattle.std.specs.BTreeMap.{get}
 use Rattle.ritas_base.specs.declared.bytes.Mem.{Mem}
 use Rattle.ritas_base.specs.declared.slot.Slot.{Slot}
 use Rattle.ritas_base.specs.declared.item.Item.{Item}
 use Rattle.ritas_base.specs.declared.item.Msg.{Msg}
+use Rattle.ritas_base.specs.declared.item.Kind.{Kind}
 use Rattle.ritas_base.specs.declared.item.Say.{Say}
 use Rattle.ritas_base.specs.SlotOrder.{slot_cmp}
-use Rattle.layer_api.specs.declared.broadcast.Heard.{Heard}
-use Rattle.layer_api.specs.declared.broadcast.Heard.TheVariants as heard
 use Rattle.layer_api.specs.Broadcast.{MayTake}
 use Rattle.layer_api.specs.Service.{MayAsk, MayHear, AreProper, is_past}
 use Rattle.layer_api.specs.Words.{Word, Ask, Hear}
+use Rattle.frame_codec.specs.Body.{is_of_form}
 use Rattle.instance_tree.specs.SlotMaps.{SlotMap}
 use Rattle.ritas_core.specs.declared.cast.Cast.{Cast}
+use Rattle.ritas_core.specs.declared.change.Change.{Change}
+use Rattle.ritas_core.specs.declared.change.Change.TheVariants as changes
 use Rattle.ritas_core.specs.declared.layers.Layers.{Layers}
 use Rattle.ritas_core.specs.Rules.{Rules, seat_of, place_at}
 use Rattle.ritas_core.specs.SlotCast.{CastStandsAt, shown_by_cast}
@@ -119,6 +121,25 @@ pub record RepeatsItem {S E C T : Type 0} (m : Meaning S E C T) (old new : Layer
   pub out : after_it ≡ before
   pub counts : RepeatsOne m old item true
 
+-- its slot newly delivers nothing by it, so the service hears nothing
+abbrev pub DeliversNone : {S E C T : Type 0} → Meaning S E C T → Layers S E C T → Item → Type 0
+DeliversNone m old item = (p : Parts) → CanTakeItem m old item p → item_delivers (rules_of m old) item p ≡ None
+
+-- what an item of this kind changes then: columns are of the form of echo broadcast, and so is all else at their slots
+abbrev pub quiet_change : Kind → Change
+quiet_change kind = if is_of_form 2 kind then changes.Columns else changes.Cast
+
+-- only so much changed
+abbrev pub ChangesOnly : {S E C T : Type 0} → Meaning S E C T → Layers S E C T → Item → Change → Type 0
+ChangesOnly m old item changes.Service = Unit {0}
+ChangesOnly m old item changes.Columns = DeliversNone m old item
+ChangesOnly m old item changes.Cast = DeliversNone m old item × (is_of_form 2 item.kind ≡ false)
+
+-- it was taken, and this changed
+pub record TakesSo {S E C T : Type 0} (m : Meaning S E C T) (old new : Layers S E C T) (item : Item) (before after_it : List Msg) (change : Change) : Type 0 where
+  pub takes : TakesItem m old new item before after_it
+  pub only : ChangesOnly m old item change
+
 -- for want of memory what the layers show lies between what they were called with and that with the item
 pub record LayersTakeNone {S E C T : Type 0} (m : Meaning S E C T) (old new : Layers S E C T) (item : Item) : Type 0 where
   pub shows : (p : Parts) → CanTakeItem m old item p
@@ -128,9 +149,9 @@ pub record LayersTakeNone {S E C T : Type 0} (m : Meaning S E C T) (old new : La
   pub counts : RepeatsOne m old item false
 
 -- each outcome
-abbrev pub GivesItem : {S E C T : Type 0} → Meaning S E C T → Layers S E C T → Layers S E C T → Item → List Msg → List Msg → Result Heard Mem → Type 0
-GivesItem m old new item before after_it (Ok heard.Took) = TakesItem m old new item before after_it
-GivesItem m old new item before after_it (Ok heard.Repeat) = RepeatsItem m old new item before after_it
+abbrev pub GivesItem : {S E C T : Type 0} → Meaning S E C T → Layers S E C T → Layers S E C T → Item → List Msg → List Msg → Result (Option Change) Mem → Type 0
+GivesItem m old new item before after_it (Ok (Some change)) = TakesSo m old new item before after_it change
+GivesItem m old new item before after_it (Ok None) = RepeatsItem m old new item before after_it
 GivesItem m old new item before after_it (Err e) = LayersTakeNone m old new item
 
 -- whether a slot is past, and whether an item is open, as the layers tell it of a slot whose origin is a replica

@@ -11,6 +11,7 @@ pub mod Checks
 pub mod Machine
 pub mod Stands
 pub mod LayerCalls
+pub mod Waiting
 pub mod Judging
 pub mod Calls
 pub mod CoreCalls

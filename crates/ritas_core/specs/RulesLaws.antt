@@ -1,5 +1,5 @@
 -- The laws of a core's broadcasts at each slot, from those of its other broadcast.
-use Rattle.std.proofs.Common.{◌≡◌, ℕ, Bool, true, false, cond, ◌&&◌, None, List, ◌∷◌, [], refl, ◌∙◌, ap, subst}
+use Rattle.std.proofs.Common.{◌≡◌, ℕ, Bool, true, false, cond, ◌&&◌, None, List, ◌∷◌, [], refl, subst}
 use Rattle.std.proofs.Math.Dec.{eqb, ltb}
 use Rattle.std.proofs.lemmas.Bool.{false≢true, eqb-true}
 use Rattle.ritas_base.specs.declared.slot.Slot.{Slot}

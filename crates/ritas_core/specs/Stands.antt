@@ -1,6 +1,8 @@
 -- What the values of a core stand for.
-use Rattle.std.specs.Prelude.{◌≡◌, ℕ, ◌<◌, Bool, true, not, None, List, [], ◌∷◌, length}
+use Rattle.std.specs.Prelude.{◌≡◌, ℕ, ◌<◌, Bool, true, false, not, ◌||◌, None, List, [], ◌∷◌, length}
+use Rattle.std.specs.List.{AllByRecursion}
 use Rattle.ritas_base.specs.declared.slot.Slot.{Slot}
+use Rattle.ritas_base.specs.declared.item.Item.{Item}
 use Rattle.ritas_base.specs.Messages.{Place}
 use Rattle.ritas_base.specs.Numbers.{IsSession}
 use Rattle.ritas_base.specs.Tags.{Tags}
@@ -18,7 +20,7 @@ use Rattle.ritas_core.specs.SlotCast.{CastStandsAt, shown_by_cast}
 use Rattle.ritas_core.specs.Drops.{is_dropped, is_dropped_shown}
 use Rattle.ritas_core.specs.Casts.{CastsStand, CastsShow, OutputsStand, OutputsShow}
 use Rattle.ritas_core.specs.Parts.{Parts, parts}
-use Rattle.ritas_core.specs.Checks.{IsHistory, IsGood}
+use Rattle.ritas_core.specs.Checks.{is_open, is_item_past, IsHistory, IsGood}
 use Rattle.ritas_core.specs.Machine.{CoreState, with_lost, AreGood}
 
 -- what the traits say of a service, of the broadcast beside the reliable one, of a coin and a tagger
@@ -77,9 +79,20 @@ abbrev pub AreGoodLists : Rules → List (List HeldItem) → Type 0
 AreGoodLists r [] = Unit {0}
 AreGoodLists r (kept ∷ held) = AreGoodKept r kept × AreGoodLists r held
 
--- the core stands for this state, by these rules; a stopped core keeps what waits and what is held, what the stop lost met its
--- conditions, and what its layers show lies between its history and that with what the stop lost; so do the
--- outputs, in which they keep what slots delivered
+-- an item waits: it is neither open nor past
+abbrev pub Waits : Rules → Parts → Item → Type 0
+Waits r p x = (is_open r p x || is_item_past r p x) ≡ false
+
+-- what is said of an item, of each that is held
+abbrev pub Each : (Item → Type 0) → List (List HeldItem) → Type 0
+Each P held = AllByRecursion (λ kept. AllByRecursion (λ k. P k.item) kept) held
+
+abbrev pub AreWaiting : Rules → Parts → List (List HeldItem) → Type 0
+AreWaiting r p held = Each (Waits r p) held
+
+-- The core stands for this state, by these rules; of the held items none is open or past. A stopped core keeps what waits and
+-- what is held, what the stop lost met its conditions, and what its layers show lies between its history and that with what the
+-- stop lost; so do the outputs, in which they keep what slots delivered.
 pub record CoreStands {S E C T : Type 0} (m : Meaning S E C T) (core : Core S E C T) (r : Rules) (st : CoreState) : Type 0 where
   pub rules : rules_of m core.layers ≡ r
   pub own : m.me core.layers.tagger ≡ r.casts.me
@@ -100,3 +113,4 @@ pub record CoreStands {S E C T : Type 0} (m : Meaning S E C T) (core : Core S E 
   pub peers : length st.held ≡ r.casts.numbers.n
   pub good_inbox : AreGood r st.inbox
   pub good_held : AreGoodLists r st.held
+  pub waiting : AreWaiting r (parts r st.history) st.held

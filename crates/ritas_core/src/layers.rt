@@ -4,9 +4,11 @@ ghost use Rattle.std.specs.Prelude.{◌≡◌, nat_le, false, Some, OnOk, OnErr,
 ghost use Rattle.std.specs.BTreeMap.{get};
 ghost use Rattle.ritas_base.specs.declared.slot.Slot.{Slot};
 ghost use Rattle.ritas_base.specs.SlotOrder.{slot_cmp, is_slot};
+ghost use Rattle.ritas_core.specs.LayerCalls.{quiet_change};
 
 use crate::cast::Cast;
 use crate::casts::start_casts;
+use crate::change::Change;
 use crate::drops::{drop_past, mark};
 use crate::fault::CoreFault;
 use crate::hear::{is_ready, take_cast};
@@ -14,8 +16,10 @@ use crate::limits::{is_behind, is_beyond};
 use crate::taken::Taken;
 use frame_codec::input_fault;
 use instance_tree::Tree;
-use layer_api::{Broadcast, COMMAND_WINDOW, Heard, Service};
-use ritas_base::{Bytes, Coin, Item, Mem, Mode, Msg, NUMBER_LIMIT, Params, Say, Slot, Tagger};
+use layer_api::{Broadcast, COMMAND_WINDOW, Service};
+use ritas_base::{
+    Bytes, Coin, Item, Kind, Mem, Mode, Msg, NUMBER_LIMIT, Params, Say, Slot, Tagger,
+};
 use std::alloc::Global;
 use std::collections::BTreeMap;
 
@@ -48,6 +52,16 @@ fn keep_output(
         outputs.insert(slot, value)?;
     }
     Ok(())
+}
+
+/// What an item of this kind changes where its slot delivers nothing: columns are at slots of echo broadcast alone.
+fn quiet_change(kind: Kind) -> Change
+    ensures { result ≡ quiet_change kind }
+{
+    match kind {
+        Kind::Send | Kind::Hashes | Kind::Column => Change::Columns,
+        _ => Change::Cast,
+    }
 }
 
 impl<S: Service, E: Broadcast, C: Coin + Drop, T: Tagger + Drop> Layers<S, E, C, T> {
@@ -126,13 +140,14 @@ impl<S: Service, E: Broadcast, C: Coin + Drop, T: Tagger + Drop> Layers<S, E, C,
         self.start_said(alloc, says.as_slice(), made)
     }
 
-    /// Gives an item to its broadcast, and what is delivered by it to the service.
+    /// Gives an item to its broadcast, and what is delivered by it to the service. Answers what changed, or `None` where the item
+    /// repeats one.
     pub(crate) fn take(
         &mut self,
         alloc: Global,
         item: &Item,
         made: &mut Vec<Msg>,
-    ) -> Result<Heard, Mem>
+    ) -> Result<Option<Change>, Mem>
         ensures given { let m = meaning S.stands S.rules S.shown E.stands E.rules E.shown C.bits T.me T.tags in
             GivesItem m self.old self.new item.now made.old.items made.new.items result }
         ensures same { SameSeat self.old self.new }
@@ -147,12 +162,12 @@ impl<S: Service, E: Broadcast, C: Coin + Drop, T: Tagger + Drop> Layers<S, E, C,
             item,
             made,
         )? {
-            Taken::Repeat => Ok(Heard::Repeat),
-            Taken::Took(None) => Ok(Heard::Took),
+            Taken::Repeat => Ok(None),
+            Taken::Took(None) => Ok(Some(quiet_change(item.kind))),
             Taken::Took(Some(value)) => {
                 self.hear(alloc, &item.slot, value.as_slice(), made)?;
                 keep_output(&self.mode, &mut self.outputs, item.slot, value)?;
-                Ok(Heard::Took)
+                Ok(Some(Change::Service))
             }
         }
     }

@@ -14,6 +14,7 @@
 mod answer;
 mod cast;
 mod casts;
+mod change;
 mod drops;
 mod fault;
 mod getters;

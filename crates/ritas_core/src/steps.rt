@@ -7,23 +7,67 @@ ghost use Rattle.ritas_core.specs.Parts.{Parts};
 ghost use Rattle.ritas_core.specs.Order.{ordered, own_items, Extends};
 ghost use Rattle.ritas_core.specs.Stands.{meaning, LayersStand};
 ghost use Rattle.ritas_core.specs.LayerCalls.{SameSeat, GivesItem, is_past_in, is_open_in};
+ghost use Rattle.ritas_core.specs.Waiting.{AreGrouped, MayOpen, MayEnd};
 
 use crate::answer::Answer;
+use crate::change::Change;
 use crate::fault::CoreFault;
 use crate::kernel::Core;
 use crate::layers::Layers;
 use crate::send::{in_order, keep_own};
-use layer_api::{Broadcast, Heard, Service};
+use layer_api::{Broadcast, Service};
 use ooc_buffers::Held;
 use ritas_base::{Coin, Item, Mem, Msg, Tagger};
 use std::alloc::Global;
 use std::collections::VecDeque;
+
+/// Moves what is open to the back of the inbox. For want of memory nothing moved.
+fn open<S: Service, E: Broadcast, C: Coin + Drop, T: Tagger + Drop>(
+    alloc: Global,
+    layers: &Layers<S, E, C, T>,
+    held: &mut Held,
+    inbox: &mut VecDeque<Item>,
+) -> Result<(), Mem>
+    ensures inbox { let m = meaning S.stands S.rules S.shown E.stands E.rules E.shown C.bits T.me T.tags in
+        (p : Parts) → LayersStand m layers.now p → AreGrouped (is_open_in m layers.now p) held.old
+        → OnOk result (inbox.new.items ≡ inbox.old.items ++ released (is_open_in m layers.now p) held.old) }
+    ensures held { let m = meaning S.stands S.rules S.shown E.stands E.rules E.shown C.bits T.me T.tags in
+        (p : Parts) → LayersStand m layers.now p → AreGrouped (is_open_in m layers.now p) held.old
+        → OnOk result (held.new ≡ remaining (is_open_in m layers.now p) held.old) }
+    ensures err { OnErr result ((inbox.new.items ≡ inbox.old.items) × (held.new ≡ held.old)) }
+{
+    held.release_groups(alloc, |item| layers.is_open(item), inbox)
+}
+
+/// Moves what is open to the back of the inbox, where something may have opened. For want of memory nothing moved.
+fn release<S: Service, E: Broadcast, C: Coin + Drop, T: Tagger + Drop>(
+    alloc: Global,
+    layers: &Layers<S, E, C, T>,
+    change: Change,
+    held: &mut Held,
+    inbox: &mut VecDeque<Item>,
+) -> Result<(), Mem>
+    ensures inbox { let m = meaning S.stands S.rules S.shown E.stands E.rules E.shown C.bits T.me T.tags in
+        (p : Parts) → LayersStand m layers.now p → MayOpen m change layers.now p held.old
+        → OnOk result (inbox.new.items ≡ inbox.old.items ++ released (is_open_in m layers.now p) held.old) }
+    ensures held { let m = meaning S.stands S.rules S.shown E.stands E.rules E.shown C.bits T.me T.tags in
+        (p : Parts) → LayersStand m layers.now p → MayOpen m change layers.now p held.old
+        → OnOk result (held.new ≡ remaining (is_open_in m layers.now p) held.old) }
+    ensures err { OnErr result ((inbox.new.items ≡ inbox.old.items) × (held.new ≡ held.old)) }
+{
+    match change {
+        Change::Cast => Ok(()),
+        Change::Columns => open(alloc, layers, held, inbox),
+        Change::Service => open(alloc, layers, held, inbox),
+    }
+}
 
 /// Puts out what was made, in order, and moves what comes to oneself and then what is open to the back of the inbox. For
 /// want of memory some of it may be there; what is held is as before.
 fn put_out<S: Service, E: Broadcast, C: Coin + Drop, T: Tagger + Drop>(
     alloc: Global,
     layers: &Layers<S, E, C, T>,
+    change: Change,
     made: Vec<Msg>,
     held: &mut Held,
     inbox: &mut VecDeque<Item>,
@@ -31,28 +75,34 @@ fn put_out<S: Service, E: Broadcast, C: Coin + Drop, T: Tagger + Drop>(
 ) -> Result<(), Mem>
     ensures out { OnOk result (out.new.items ≡ out.old.items ++ ordered made.items) }
     ensures inbox { let m = meaning S.stands S.rules S.shown E.stands E.rules E.shown C.bits T.me T.tags in
-        OnOk result ((p : Parts) → LayersStand m layers.now p
+        OnOk result ((p : Parts) → LayersStand m layers.now p → MayOpen m change layers.now p held.old
         → inbox.new.items ≡ (inbox.old.items ++ own_items layers.now.me (ordered made.items)) ++ released (is_open_in m layers.now p) held.old) }
     ensures held { let m = meaning S.stands S.rules S.shown E.stands E.rules E.shown C.bits T.me T.tags in
-        OnOk result ((p : Parts) → LayersStand m layers.now p → held.new ≡ remaining (is_open_in m layers.now p) held.old) }
+        OnOk result ((p : Parts) → LayersStand m layers.now p → MayOpen m change layers.now p held.old
+        → held.new ≡ remaining (is_open_in m layers.now p) held.old) }
     ensures err { OnErr result (Extends inbox.old.items inbox.new.items × Extends out.old.items out.new.items × (held.new ≡ held.old)) }
 {
     let mut sent = in_order(alloc, made)?;
     keep_own(alloc, layers.me, sent.as_slice(), inbox)?;
     out.append(&mut sent)?;
-    held.release(alloc, |item| layers.is_open(item), inbox)?;
+    release(alloc, layers, change, held, inbox)?;
     Ok(())
 }
 
-/// Drops the held items that are past.
+/// Drops the held items that are past, where a window may have moved.
 fn forget<S: Service, E: Broadcast, C: Coin + Drop, T: Tagger + Drop>(
     layers: &Layers<S, E, C, T>,
+    change: Change,
     held: &mut Held,
 )
     ensures { let m = meaning S.stands S.rules S.shown E.stands E.rules E.shown C.bits T.me T.tags in
-        (p : Parts) → LayersStand m layers.now p → held.new ≡ remaining (λ x. is_past_in m layers.now p x.slot) held.old }
+        (p : Parts) → LayersStand m layers.now p → MayEnd m change layers.now p held.old
+        → held.new ≡ remaining (λ x. is_past_in m layers.now p x.slot) held.old }
 {
-    held.forget(|item| layers.is_past(&item.slot));
+    match change {
+        Change::Cast | Change::Columns => {}
+        Change::Service => held.forget_groups(|item| layers.is_past(&item.slot)),
+    }
 }
 
 /// Gives the layers the item at the front of the inbox.
@@ -61,7 +111,7 @@ pub(crate) fn take_front<S: Service, E: Broadcast, C: Coin + Drop, T: Tagger + D
     layers: &mut Layers<S, E, C, T>,
     inbox: &VecDeque<Item>,
     made: &mut Vec<Msg>,
-) -> Result<Heard, Mem>
+) -> Result<Option<Change>, Mem>
     ensures given { let m = meaning S.stands S.rules S.shown E.stands E.rules E.shown C.bits T.me T.tags in
         (item : Item) (rest : List Item) → inbox.now.items ≡ item ∷ rest
         → GivesItem m layers.old layers.new item made.old.items made.new.items result }
@@ -70,7 +120,7 @@ pub(crate) fn take_front<S: Service, E: Broadcast, C: Coin + Drop, T: Tagger + D
     match inbox.front() {
         Some(item) => layers.take(alloc, item, made),
         // No such inbox comes.
-        None => Ok(Heard::Repeat),
+        None => Ok(None),
     }
 }
 
@@ -80,11 +130,17 @@ impl<S: Service, E: Broadcast, C: Coin + Drop, T: Tagger + Drop> Core<S, E, C, T
     ghost use Rattle.ritas_core.specs.Shown.{tagger_of};
     ghost use Rattle.ritas_core.specs.CoreCalls.{Finishes, Withdraws, PassesOn, TriesInput};
 
-    /// Puts out what was made, in order, and moves what comes to oneself and then what is open to the inbox. For want of
-    /// memory all is as before.
-    fn finish(&mut self, alloc: Global, made: Vec<Msg>, out: &mut Vec<Msg>) -> Result<(), Mem>
+    /// Puts out what was made, in order, moves what comes to oneself and then what is open to the inbox, and drops what is
+    /// past. For want of memory all is as before.
+    fn finish(
+        &mut self,
+        alloc: Global,
+        change: Change,
+        made: Vec<Msg>,
+        out: &mut Vec<Msg>,
+    ) -> Result<(), Mem>
         ensures ok { let m = meaning S.stands S.rules S.shown E.stands E.rules E.shown C.bits T.me T.tags in
-            OnOk result (Finishes m self.old self.new made.items out.old.items out.new.items) }
+            OnOk result (Finishes m change self.old self.new made.items out.old.items out.new.items) }
         ensures err { OnErr result (Withdraws self.old self.new out.old.items out.new.items) }
         ensures tagger { tagger_of self.new ≡ tagger_of self.old }
     {
@@ -93,6 +149,7 @@ impl<S: Service, E: Broadcast, C: Coin + Drop, T: Tagger + Drop> Core<S, E, C, T
         if let Err(fault) = put_out(
             alloc,
             &self.layers,
+            change,
             made,
             &mut self.held,
             &mut self.inbox,
@@ -102,7 +159,7 @@ impl<S: Service, E: Broadcast, C: Coin + Drop, T: Tagger + Drop> Core<S, E, C, T
             out.truncate(sent);
             return Err(fault);
         }
-        forget(&self.layers, &mut self.held);
+        forget(&self.layers, change, &mut self.held);
         Ok(())
     }
 
@@ -111,18 +168,18 @@ impl<S: Service, E: Broadcast, C: Coin + Drop, T: Tagger + Drop> Core<S, E, C, T
     pub(crate) fn pass_on(
         &mut self,
         alloc: Global,
-        heard: Result<Heard, Mem>,
+        taken: Result<Option<Change>, Mem>,
         made: Vec<Msg>,
         out: &mut Vec<Msg>,
     ) -> Result<Answer, CoreFault>
         ensures does { let m = meaning S.stands S.rules S.shown E.stands E.rules E.shown C.bits T.me T.tags in
-            PassesOn m self.old self.new heard made.items out.old.items out.new.items result }
+            PassesOn m self.old self.new taken made.items out.old.items out.new.items result }
         ensures tagger { tagger_of self.new ≡ tagger_of self.old }
     {
-        match heard {
-            Ok(heard) => match heard {
-                Heard::Repeat => Ok(Answer::Repeat),
-                Heard::Took => match self.finish(alloc, made, out) {
+        match taken {
+            Ok(taken) => match taken {
+                None => Ok(Answer::Repeat),
+                Some(change) => match self.finish(alloc, change, made, out) {
                     Ok(()) => Ok(Answer::Took),
                     Err(_) => {
                         self.stopped = true;
@@ -150,7 +207,7 @@ impl<S: Service, E: Broadcast, C: Coin + Drop, T: Tagger + Drop> Core<S, E, C, T
     {
         let mut made = Vec::new(alloc);
         self.layers.input(alloc, value, &mut made)?;
-        self.finish(alloc, made, out)?;
+        self.finish(alloc, Change::Service, made, out)?;
         Ok(())
     }
 }

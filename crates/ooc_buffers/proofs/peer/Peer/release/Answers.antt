@@ -1,18 +1,47 @@
-use Rattle.std.proofs.Common.{◌<◌, arith, ◌∙◌, ap, length}
-use Rattle.std.specs.VecDeque.{deque_len, deque_capacity}
-use Rattle.ooc_buffers.proofs.Turns.{IsTurn, turns_more}
+use Rattle.std.proofs.Common.{◌≡◌, ◌∙◌, sym, ap, subst, arith, ◌+◌, length, List, [], ◌++◌, map, sum_by, ℕ}
+use Rattle.std.specs.VecDeque.{deque_len}
+use Rattle.ooc_buffers.specs.Lists.{HeldItem, passing, failing}
+use Rattle.ooc_buffers.specs.Spots.{Spotted, held_in, in_order, pass, put_all, AreApart}
+use Rattle.ooc_buffers.proofs.InOrder.{order_pass, order_fail, order_count, order_rights, counts_both, length_moved, sums_moved}
+use Rattle.ooc_buffers.proofs.Sorting.{apart_filter}
 use Rattle.ooc_buffers.proofs.peer.Peer.release.Goals as goal
 
-pub loop-turn-preserved : goal.loop-turn-preserved
-loop-turn-preserved g c = record {
-  counts = c.turn.ensures.counts c.loop-turn.invariant.counts;
-  bytes = omega (arith, c.turn.ensures.bytes, c.loop-turn.invariant.bytes);
-  capacity = c.turn.ensures.capacity ∙ c.loop-turn.invariant.capacity;
-  moves = λ t computes room.
-      let turn : IsTurn t c.loop-turn.self-inside.entries.items c.turn.new.entries.items c.loop-turn.inbox.items c.turn.new.inbox.items (deque_len c.loop-turn.inbox) (deque_len c.turn.new.inbox) (deque_capacity c.loop-turn.inbox) = record {
-        moves = λ k rest. c.turn.ensures.moves t k rest computes;
-        keeps = λ k rest. c.turn.ensures.keeps t k rest computes;
-      } in
-      let within : c.loop-turn._turn < length c.args.self.now = omega (arith, ap length c.self.view_is, c.self.inside.entries.ok.0, c.len-turn-end.ensures) in
-      turns_more t _ _ _ _ _ _ _ _ _ _ (deque_capacity c.loop-turn.inbox) within (omega (arith, room, c.loop-turn.invariant.capacity)) turn (c.loop-turn.invariant.moves t computes room);
-}
+pub invariant_of-self : goal.invariant_of-self
+invariant_of-self g c =
+    let taken = λ (f : HeldItem → ℕ). sums_moved f c.args.moved.now.items c.take_open.new.moved.items c.self.inside.items.entries c.take_open.new.items.entries c.requires.empty (c.take_open.ensures.same f) in
+    let same = λ (f : HeldItem → ℕ). ap (λ (n : ℕ). n + sum_by f (held_in c.take_open.new.items.entries)) (c.sort.ensures.same f) ∙ taken f in
+    let kept = c.self.invariant.keyed in
+    let all = same (λ (k : HeldItem). k.len) in
+    let whole : c.self.inside.bytes ≡ sum_by (λ (k : HeldItem). k.len) (held_in c.self.inside.items.entries) = kept.sum in
+    let bytes = c.pass_on.ensures.bytes (omega (arith, all, whole, c.self.ranges)) in
+    record {
+      ats = c.take_open.ensures.ats _ c.self.invariant.ats;
+      apart = c.take_open.ensures.apart c.self.invariant.apart;
+      keyed = record {
+        counts = c.pass_on.ensures.counts (held_in c.take_open.new.items.entries)
+            (counts_both c.self.inside.index c.self.inside.items.entries c.sort.new.moved.items c.take_open.new.items.entries same kept.counts);
+        sum = omega (arith, all, whole, bytes);
+      };
+    }
+
+pub returns-clause-moves : goal.returns-clause-moves
+returns-clause-moves g c = λ t right computes goes rights room fits.
+    let fine = order_rights right c.self.inside.items.entries c.args.self.now c.self.view_is rights in
+    let count = sym (order_count t c.self.inside.items.entries) ∙ ap (λ (l : List HeldItem). length (passing t l)) c.self.view_is in
+    let empty = ap length c.requires.empty in
+    let none : deque_len c.args.moved.now ≡ 0 = omega (arith, empty, c.args.moved.now.ok.0) in
+    let did = c.take_open.ensures.moves t right c.self.inside.next computes goes c.self.invariant.ats fine (omega (arith, none, count, room)) in
+    let taken : c.take_open.new.moved.items ≡ pass t c.self.inside.items.entries =
+    did.1 ∙ ap (λ (l : List Spotted). l ++ pass t c.self.inside.items.entries) c.requires.empty in
+    let apart = subst (λ (l : List Spotted). AreApart l) (sym taken) (apart_filter (λ e. t e.1.item) c.self.inside.items.entries c.self.invariant.apart) in
+    let there : c.sort.new.moved.items ≡ put_all [] (pass t c.self.inside.items.entries) =
+    c.sort.ensures.order apart ∙ ap (λ (l : List Spotted). put_all [] l) taken in
+    let many = ap length there ∙ length_moved (pass t c.self.inside.items.entries) in
+    let on = c.pass_on.ensures.items (omega (arith, many, count, fits)) in
+    record {
+      kept = ap (λ (l : List Spotted). in_order l) did.0 ∙ (sym (order_fail t c.self.inside.items.entries) ∙ ap (failing t) c.self.view_is);
+      moved = on.0
+          ∙ (ap (λ (l : List Spotted). c.args.inbox.now.items ++ map (λ (k : HeldItem). k.item) (held_in l)) there
+          ∙ ap (λ (l : List HeldItem). c.args.inbox.now.items ++ map (λ (k : HeldItem). k.item) l) (sym (order_pass t c.self.inside.items.entries) ∙ ap (passing t) c.self.view_is));
+      len = omega (arith, on.1, many, count);
+    }

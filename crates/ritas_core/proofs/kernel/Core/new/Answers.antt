@@ -15,6 +15,7 @@ use Rattle.ritas_core.proofs.CastSteps.{casts_nothing}
 use Rattle.ritas_core.proofs.ShownLayers.{layers_show}
 use Rattle.ritas_core.specs.RulesLaws.{laws_at, kinds_fit}
 use Rattle.ritas_core.proofs.Goodness.{good_none_held}
+use Rattle.ritas_core.proofs.Waiting.{each_none}
 use Rattle.ritas_core.proofs.kernel.Core.new.Goals as goal
 
 pub returns-clause-stands : goal.returns-clause-stands
@@ -60,4 +61,5 @@ returns-clause-stands g c =
       peers = length-replicate _ _;
       good_inbox = tt;
       good_held = good_none_held _ _;
+      waiting = each_none _ _;
     }

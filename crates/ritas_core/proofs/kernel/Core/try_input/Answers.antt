@@ -14,7 +14,7 @@ returns-clause-does g c =
     let m : Meaning g.row.S.Denot g.row.E.Denot g.row.C.Denot g.row.T.Denot =
     meaning g.S.Service.stands g.S.Service.rules g.S.Service.shown b.stands b.rules b.shown g.C.Coin.bits g.T.Tagger.me g.T.Tagger.tags in
     let well = means_well m b.live g.met.E.Broadcast.value_laws g.met.S.Service.word_laws g.met.S.Service.shows g.met.E.Broadcast.shows in
-    enters_input m well c.args.self.now c.finish.new.self c.input.new.self c.args.value.now
+    enters_input m well (record { down = g.met.S.Service.opens_down; by_kind = g.met.E.Broadcast.ready_by_kind }) c.args.self.now c.finish.new.self c.input.new.self c.args.value.now
     c.new-made.result.items c.input.new.made.items _ _ c.new-made.ensures.items c.input.ensures.same c.input.ensures.outputs c.in_ok-input.ensures.told c.in_ok-finish.ensures.ok
 
 pub returns-in_err-input-clause-does : goal.returns-in_err-input-clause-does
