@@ -1,5 +1,5 @@
 //! Opening a journal.
-ghost use Rattle.std.specs.Prelude.{◌≡◌, ◌<◌, ◌≤◌, ◌+◌, ◌++◌, ◌∷◌, ◌⊎◌, [], ℕ, List, true, length, reverse, slice_index, Err, IfOk, IsErr, ◌≢◌};
+ghost use Rattle.std.specs.Prelude.{◌≡◌, ◌<◌, ◌≤◌, ◌+◌, ◌++◌, ◌∷◌, ◌⊎◌, [], ℕ, List, true, length, take, reverse, slice_index, Err, IfOk, IsErr, ◌≢◌};
 ghost use Rattle.outside.specs.Faults.{CountsFault, HasCause, counted};
 ghost use Rattle.outside.specs.Disks.{LeavesOnly, at_rest, disk_state_of};
 ghost use Rattle.schedule_file.specs.FileBytes.{limit};
@@ -78,6 +78,7 @@ fn decode(
     ensures foreign { (p : ℕ) → result ≡ Err (JournalFault.Foreign p) → IsForeign head.now file.now p }
     ensures broken { (p : ℕ) → result ≡ Err (JournalFault.Broken p) → IsBroken me head.now file.now p }
     ensures others { (p : ℕ) → (result ≢ Err (JournalFault.Full p)) × (result ≢ Err JournalFault.Disk) }
+    ensures memory { result ≡ Err JournalFault.Mem → (take 52 file.now ≡ 1 ∷ head.now) × (slice_index file.now 52 ≡ 1) }
 {
     match check_head(file, head) {
         Ok(()) => {}
@@ -108,6 +109,8 @@ fn open_file<D: Disk>(
     ensures foreign { (p : ℕ) → result ≡ Err (JournalFault.Foreign p) → IsForeign head.now file.now p }
     ensures broken { (p : ℕ) → result ≡ Err (JournalFault.Broken p) → IsBroken me head.now file.now p }
     ensures full { (p : ℕ) → result ≢ Err (JournalFault.Full p) }
+    ensures memory { result ≡ Err JournalFault.Mem
+        → (53 ≤ length file.now) × (take 52 file.now ≡ 1 ∷ head.now) × (slice_index file.now 52 ≡ 1) }
     ensures cause { HasCause (D.faults disk.old) (D.faults disk.new) (result ≡ Err JournalFault.Disk) }
     ensures counts { CountsFault (D.faults disk.old) (D.faults disk.new) result (result ≡ Err JournalFault.Disk) }
 {
@@ -129,7 +132,8 @@ fn open_file<D: Disk>(
 /// `Full` comes where the file has more than 67,108,864 bytes, and else `Foreign` where it is made and has another head, and else
 /// `Broken` where an open gate isn't followed by a record and a gate. By `journal_laws` no file is two of these, or one and opens,
 /// so each comes exactly there where the disk and the memory don't fail. `Disk` comes only where the disk failed: at its first call
-/// that fails this one ends, so the disk's count of faults rises by one, and at any other answer it stands.
+/// that fails this one ends, so the disk's count of faults rises by one, and at any other answer it stands. An empty file takes no
+/// memory, and so never `Mem`.
 pub fn open_journal<D: Disk>(
     alloc: Global,
     disk: &mut D,
@@ -153,6 +157,7 @@ pub fn open_journal<D: Disk>(
     ensures foreign { D.tells ≡ true → (p : ℕ) → result ≡ Err (JournalFault.Foreign p) → IsForeign head.now (disk_state_of (D.told disk.old)).seen p }
     ensures broken { D.tells ≡ true → (p : ℕ) → result ≡ Err (JournalFault.Broken p) → IsBroken me head.now (disk_state_of (D.told disk.old)).seen p }
     ensures full { (x : ℕ) → result ≡ Err (JournalFault.Full x) → (x ≡ limit + 1) × (D.tells ≡ true → limit < length (disk_state_of (D.told disk.old)).seen) }
+    ensures memory { D.tells ≡ true → result ≡ Err JournalFault.Mem → 0 < length (disk_state_of (D.told disk.old)).seen }
     ensures cause { HasCause (D.faults disk.old) (D.faults disk.new) (result ≡ Err JournalFault.Disk) }
     ensures counts { CountsFault (D.faults disk.old) (D.faults disk.new) result (result ≡ Err JournalFault.Disk) }
 {

@@ -20,6 +20,8 @@ pub(crate) fn read_file<D: Disk>(alloc: Global, disk: &mut D) -> Result<Vec<u8>,
     ensures full { (x : ℕ) → result ≡ Err (JournalFault.Full x) → (x ≡ limit + 1) × (D.tells ≡ true → limit < length (disk_state_of (D.told disk.old)).seen) }
     ensures others { (p : ℕ) → (result ≢ Err (JournalFault.Foreign p)) × (result ≢ Err (JournalFault.Broken p)) }
     ensures same { D.tells ≡ true → D.told disk.new ≡ D.told disk.old }
+    // An empty file takes no memory.
+    ensures memory { D.tells ≡ true → result ≡ Err JournalFault.Mem → 0 < length (disk_state_of (D.told disk.old)).seen }
     ensures cause { HasCause (D.faults disk.old) (D.faults disk.new) (result ≡ Err JournalFault.Disk) }
     ensures counts { CountsFault (D.faults disk.old) (D.faults disk.new) result (result ≡ Err JournalFault.Disk) }
 {
@@ -77,6 +79,8 @@ pub(crate) fn read_records(
     ensures broken { (p : ℕ) → result ≡ Err (JournalFault.Broken p)
         → (es : List Event) × AtGate me file.now p es × (slice_index file.now p ≡ 1) × NoRecord me (drop (p + 1) file.now) }
     ensures others { (p : ℕ) → (result ≢ Err (JournalFault.Foreign p)) × (result ≢ Err (JournalFault.Full p)) × (result ≢ Err JournalFault.Disk) }
+    // Where the first gate is closed there is no event, and no memory is taken.
+    ensures memory { result ≡ Err JournalFault.Mem → slice_index file.now 52 ≡ 1 }
 {
     let mut events = Vec::new(alloc);
     let mut at = 52;
@@ -100,6 +104,7 @@ pub(crate) fn check_head(file: &[u8], head: &[u8; 51]) -> Result<(), JournalFaul
     ensures foreign { (p : ℕ) → result ≡ Err (JournalFault.Foreign p)
         → (1 ≤ p) × (p < 52) × (take p file.now ≡ take p (1 ∷ head.now)) × (slice_index file.now p ≢ slice_index (1 ∷ head.now) p) }
     ensures others { (p : ℕ) → (result ≢ Err (JournalFault.Broken p)) × (result ≢ Err (JournalFault.Full p)) × (result ≢ Err JournalFault.Disk) }
+    ensures memory { result ≢ Err JournalFault.Mem }
 {
     for (i, byte) in head.iter().enumerate() {
         if file[i + 1] != *byte {

@@ -1,6 +1,6 @@
 //! The frames that are kept for one peer, the oldest first, within the limit of their bytes.
 
-ghost use Rattle.std.specs.Prelude.{◌≡◌, ℕ, ◌+◌, ◌-◌, ◌^◌, ◌<◌, ◌≤◌, ◌↔◌, [], ◌∷◌, ◌++◌, length, All, filter, not, ◌==◌, Err, Some, IfSome, OnOk, OnErr, MatchOption, true};
+ghost use Rattle.std.specs.Prelude.{◌≡◌, ℕ, ◌+◌, ◌-◌, ◌^◌, ◌<◌, ◌≤◌, ◌↔◌, [], ◌∷◌, ◌++◌, length, All, filter, not, ◌==◌, Err, Some, IfSome, IfNone, OnOk, OnErr, MatchOption, true, Contains};
 ghost use Rattle.std.specs.BTreeMap.{keys, values};
 ghost use Rattle.std.specs.List.{slice_get};
 ghost use Rattle.link_resume.specs.declared.kept.Kept.{Kept};
@@ -59,7 +59,8 @@ fn retain_others(kept: &mut BTreeMap<u128, Kept>, seq: u64)
 
 // The place of a frame behind the others: its number, where this is greater than their places. None is left behind the greatest.
 fn place_behind(kept: &BTreeMap<u128, Kept>, number: u128) -> Option<u128>
-    ensures { IfSome result (λ place. All (λ other. other < place) (keys kept.now)) }
+    ensures behind { IfSome result (λ place. All (λ other. other < place) (keys kept.now)) }
+    ensures none { IfNone result (Contains (keys kept.now) (2 ^ 128 - 1)) }
 {
     match kept.last_key_value() {
         Some((last, _)) if number <= *last => last.checked_add(1),

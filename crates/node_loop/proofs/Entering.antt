@@ -1,5 +1,5 @@
 -- The replies to those who waited.
-use Rattle.std.proofs.Common.{◌≡◌, ℕ, ◌+◌, ◌<◌, List, [], ◌∷◌, ◌++◌, length, map, take, Option, None, refl, sym, ◌∙◌, ap, append-nil, append_assoc, slice_index_or}
+use Rattle.std.proofs.Common.{◌≡◌, ◌≢◌, ℕ, zero, suc, ◌+◌, ◌<◌, arith, List, [], ◌∷◌, ◌++◌, length, map, take, Option, Some, None, refl, sym, ◌∙◌, ap, append-nil, append_assoc, slice_index_or}
 use Rattle.std.proofs.lemmas.List.{take_more}
 use Rattle.outside.specs.declared.link.Sent.{Sent}
 use Rattle.node_loop.specs.declared.output.Reply.{Reply}
@@ -27,3 +27,11 @@ replied_more at bytes conns i conn before now more within is so_far did =
     ∙ append_assoc before (reply_each at bytes (take i conns)) (reply at bytes conn)
     ∙ ap (λ x. before ++ (reply_each at bytes (take i conns) ++ reply at bytes x)) (sym is)
     ∙ ap (λ xs. before ++ xs) (sym (each_more at bytes conns i within))
+
+-- where one of them is a connection, it is replied to
+pub some_replied : (at : ℕ) (bytes : List ℕ) (conns : List (Option ℕ)) (i conn : ℕ) → i < length conns → slice_index_or conns i None ≡ Some conn
+    → reply_each at bytes conns ≢ []
+some_replied at bytes [] i conn within is none = absurd (omega (arith, within))
+some_replied at bytes (None ∷ conns) zero conn within is none = absurd (cc)
+some_replied at bytes (None ∷ conns) (suc i) conn within is none = some_replied at bytes conns i conn (omega (arith, within)) is none
+some_replied at bytes (Some other ∷ conns) i conn within is none = absurd (cc)

@@ -1,5 +1,5 @@
 -- Which requests an index has for a connection, after a change.
-use Rattle.std.specs.Prelude.{◌≡◌, ℕ, ◌==◌, ◌&&◌, ◌||◌, Bool, true, false, not, cond, List, [], ◌∷◌, ◌++◌, filter, Option, Some, None, IfSome, IfNone, MatchOption, Result, Ok, Err, OnOk, if◌then◌else◌, refl}
+use Rattle.std.specs.Prelude.{◌≡◌, ℕ, ◌==◌, ◌&&◌, ◌||◌, Bool, true, false, not, cond, List, [], ◌∷◌, ◌++◌, filter, Option, Some, None, IfSome, IfNone, MatchOption, Result, Ok, Err, OnOk, OnErr, if◌then◌else◌, refl}
 use Rattle.std.specs.List.{list_any}
 use Rattle.std.specs.BTreeMap.{BTreeMap, get, is_at}
 use Rattle.std.specs.declared.vec.Vec.{Vec}
@@ -223,6 +223,11 @@ pushed old new asked conn ws is absent puts adds =
 pub pushed_so : {A B : Type 0} (r : Result A B) {P Q : Type 0} → (P → Q) → OnOk r P → OnOk r Q
 pushed_so (Ok a) gives is = gives is
 pushed_so (Err e) gives is = is
+
+-- what holds in any case does at an error
+pub at_error : {A B : Type 0} (r : Result A B) {P : Type 0} → P → OnErr r P
+at_error (Ok a) is = tt
+at_error (Err e) is = is
 
 -- ---- a connection goes
 

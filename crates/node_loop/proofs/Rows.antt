@@ -1,7 +1,7 @@
 -- The rows of a log that came in so far.
-use Rattle.std.proofs.Common.{◌≡◌, ℕ, zero, suc, ◌+◌, ◌-◌, ◌<◌, ◌≤◌, false, nat_lt, List, [], ◌∷◌, ◌++◌, length, drop, reverse, Some, None, refl, sym, ◌∙◌, ap, subst, arith, append-nil, append_assoc, ◌⊎◌, inl, inr, if◌then◌else◌}
+use Rattle.std.proofs.Common.{◌≡◌, ◌≢◌, ℕ, zero, suc, ◌+◌, ◌-◌, ◌<◌, ◌≤◌, false, nat_lt, List, [], ◌∷◌, ◌++◌, length, drop, reverse, Some, None, refl, sym, ◌∙◌, ap, subst, arith, append-nil, append_assoc, ◌⊎◌, inl, inr, if◌then◌else◌}
 use Rattle.std.specs.List.{slice_get}
-use Rattle.std.proofs.lemmas.Bool.{lt-ltb, le-ltb, cond-true, cond-false}
+use Rattle.std.proofs.lemmas.Bool.{lt-ltb, le-ltb, cond-true, cond-false, cases_lt}
 use Rattle.std.proofs.lemmas.List.{length-drop, length-reverse}
 use Rattle.std.proofs.lemmas.Option.{slice_get_within, slice_get_cases}
 use mathlib.Core.List.{reverse-cons}
@@ -109,3 +109,41 @@ enters_more at count rows p row waiting later before now more ws so_far above th
 -- all of them
 pub all_first : (rows : List Row) (p : ℕ) → length rows ≤ p → first rows p ≡ rows
 all_first rows p past = ap (λ i. drop i rows) (let none : length rows - p ≡ 0 = omega arith in none)
+
+-- ---- who is replied to
+
+front_none : {X : Type 0} (xs ys : List X) → xs ++ ys ≡ [] → xs ≡ []
+front_none [] ys none = refl
+front_none (x ∷ xs) ys none = absurd (cc)
+
+back_none : {X : Type 0} (xs ys : List X) → xs ++ ys ≡ [] → ys ≡ []
+back_none [] ys none = none
+back_none (x ∷ xs) ys none = absurd (cc)
+
+-- where nobody is replied to, nobody is by the rows before the newest
+before_none : (at count : ℕ) (row : Row) (rows : List Row) (ws : Waiting) → replies_by at count (row ∷ rows) ws ≡ [] → replies_by at count rows ws ≡ []
+before_none at count row rows ws none = elim (cases_lt (length rows) count) [
+  | inl few ↦ replies_none at count rows ws (omega (arith, few))
+  | inr many ↦
+      let said = reply_each at (position_reply row.client row.request (length rows)) (waiting_left_by at count rows ws (asked_by at row)) in
+      front_none (replies_by at count rows ws) said (sym (cond-false (nat_lt (length rows) count) [] (replies_by at count rows ws ++ said) (le-ltb (length rows) count (omega (arith, many)))) ∙ none)
+]
+
+drop_none : (at count k : ℕ) (rows : List Row) (ws : Waiting) → replies_by at count rows ws ≡ [] → replies_by at count (drop k rows) ws ≡ []
+drop_none at count zero rows ws none = none
+drop_none at count (suc k) [] ws none = none
+drop_none at count (suc k) (row ∷ rows) ws none = drop_none at count k rows ws (before_none at count row rows ws none)
+
+-- somebody is replied to where somebody is by one of the rows
+pub some_by_row : (at count : ℕ) (rows : List Row) (p : ℕ) (row : Row) (ws : Waiting) → count ≤ p → row_at rows p ≡ Some row
+    → reply_each at (position_reply row.client row.request p) (waiting_left_by at count (first rows p) ws (asked_by at row)) ≢ [] → replies_by at count rows ws ≢ []
+some_by_row at count rows p row ws above there some none =
+    let rest = first rows p in
+    let within : p < length rows = let below = slice_get_within (reverse rows) p row there in let long = length-reverse rows in omega arith in
+    let long : length rest ≡ p = length_first rows p (omega arith) in
+    let past : nat_lt (length rest) count ≡ false = le-ltb (length rest) count (omega arith) in
+    let said = reply_each at (position_reply row.client row.request (length rest)) (waiting_left_by at count rest ws (asked_by at row)) in
+    let here : replies_by at count (row ∷ rest) ws ≡ [] =
+    ap (λ xs. replies_by at count xs ws) (sym (first_more rows p row there)) ∙ drop_none at count (length rows - (p + 1)) rows ws none in
+    some (ap (λ k. reply_each at (position_reply row.client row.request k) (waiting_left_by at count rest ws (asked_by at row))) (sym long)
+    ∙ back_none (replies_by at count rest ws) said (sym (cond-false (nat_lt (length rest) count) [] (replies_by at count rest ws ++ said) past) ∙ here))

@@ -1,5 +1,5 @@
 //! The messages of clients, and the items of a link.
-ghost use Rattle.std.specs.Prelude.{◌≡◌, ◌≢◌, ◌++◌, map, None, OnOk, MatchOption};
+ghost use Rattle.std.specs.Prelude.{◌≡◌, ◌≢◌, ◌++◌, map, None, OnOk, OnErr, MatchOption};
 ghost use Rattle.client_port.specs.Messages.{request_in};
 ghost use Rattle.node_loop.specs.Calls.{asked_in, reply};
 ghost use Rattle.node_loop.specs.Standing.{reply_by};
@@ -64,6 +64,7 @@ struct Message {
 fn reply(output: &mut Output, conn: Option<u32>, bytes: [u8; REPLY_LEN]) -> Result<(), Mem>
     ensures replies { (at : _) → OnOk result (map (reply_by at) output.new.replies.items
         ≡ map (reply_by at) output.old.replies.items ++ reply at bytes conn) }
+    ensures memory { OnErr result (conn ≢ None) }
     ensures same { (output.new.at ≡ output.old.at) × (output.new.event ≡ output.old.event) × (output.new.frames ≡ output.old.frames)
         × (output.new.more ≡ output.old.more) × (output.new.kept ≡ output.old.kept) }
 {

@@ -11,7 +11,7 @@ use ritas_core::Answer;
 use std::alloc::Global;
 
 impl<S: Service, E: Broadcast, C: Coin + Drop> House<S, E, C> {
-    ghost use Rattle.std.specs.Prelude.{◌≡◌, ℕ, ◌∷◌, ◌++◌, List, true, length, map, Some, IfSome, IfOk, OnOk};
+    ghost use Rattle.std.specs.Prelude.{◌≡◌, ◌≢◌, ℕ, [], ◌∷◌, ◌++◌, List, true, length, map, Some, IfSome, IfOk, OnOk, OnErr};
     ghost use Rattle.std.specs.List.{slice_get};
     ghost use Rattle.ritas_base.specs.declared.event.Event.{Event};
     ghost use Rattle.ritas_base.specs.declared.event.Event.TheVariants.{Turn};
@@ -87,6 +87,10 @@ impl<S: Service, E: Broadcast, C: Coin + Drop> House<S, E, C> {
             → OnOk result (HouseStands m w es numbers self.new (waiting_left_by output.old.at count (rows_at w es output.old.at) ws) p
             × (map (reply_by output.old.at) output.new.replies.items
             ≡ map (reply_by output.old.at) output.old.replies.items ++ replies_by output.old.at count (rows_at w es output.old.at) ws)) }
+        ensures memory { let m = meaning_of S.Service E.Broadcast C.Coin in
+            (w : Setting) (es : List Event) (numbers : List ℕ) (ws : Waiting) (p : Peers) → HouseStands m w es numbers self.old ws p
+            → slice_get numbers place ≡ Some output.old.at
+            → OnErr result (replies_by output.old.at count (rows_at w es output.old.at) ws ≢ []) }
         ensures same { (output.new.at ≡ output.old.at) × (output.new.event ≡ output.old.event) × (output.new.frames ≡ output.old.frames)
             × (output.new.more ≡ output.old.more) × (output.new.kept ≡ output.old.kept) }
     {

@@ -1,5 +1,5 @@
 //! The rows that come into a replica's log, and those who waited for them.
-ghost use Rattle.std.specs.Prelude.{◌≡◌, ◌++◌, ◌<◌, map, OnOk, Some};
+ghost use Rattle.std.specs.Prelude.{◌≡◌, ◌≢◌, ◌++◌, ◌<◌, [], map, OnOk, OnErr, Some};
 ghost use Rattle.client_port.specs.Messages.{position_reply};
 ghost use Rattle.node_loop.specs.Waiting.{Waiting, without_asked};
 ghost use Rattle.node_loop.specs.Calls.{asked_by, waiting_left_by, replies_by, reply_each};
@@ -21,6 +21,7 @@ fn reply_each(
 ) -> Result<(), Mem>
     ensures replies { (at : _) → OnOk result (map (reply_by at) replies.new.items
         ≡ map (reply_by at) replies.old.items ++ reply_each at bytes conns.now) }
+    ensures memory { (at : _) → OnErr result (reply_each at bytes conns.now ≢ []) }
 {
     for conn in conns {
         if let Some(conn) = *conn {
@@ -43,6 +44,8 @@ fn enter_row(
         (IsWaiting waiting.new (without_asked (asked_by at row.now) ws)
         × (map (reply_by at) replies.new.items ≡ map (reply_by at) replies.old.items
         ++ reply_each at (position_reply row.now.client row.now.request position) (ws (asked_by at row.now)))) }
+    ensures memory { (ws : Waiting) → IsWaiting waiting.old ws
+        → OnErr result (reply_each at (position_reply row.now.client row.now.request position) (ws (asked_by at row.now)) ≢ []) }
 {
     let asked = Asked {
         at,
@@ -58,7 +61,7 @@ fn enter_row(
 }
 
 /// The rows of a replica's log behind the first so many come in: all that waited for them are replied their positions, and don't wait
-/// any more. The one error is want of memory.
+/// any more. The one error is want of memory, which comes only where somebody is replied to.
 pub(crate) fn enter_rows(
     alloc: Global,
     waiting: &mut Waiters,
@@ -70,6 +73,7 @@ pub(crate) fn enter_rows(
     ensures enters { (ws : Waiting) → IsWaiting waiting.old ws → OnOk result
         (IsWaiting waiting.new (waiting_left_by at count log.now.rows ws)
         × (map (reply_by at) replies.new.items ≡ map (reply_by at) replies.old.items ++ replies_by at count log.now.rows ws)) }
+    ensures memory { (ws : Waiting) → IsWaiting waiting.old ws → OnErr result (replies_by at count log.now.rows ws ≢ []) }
 {
     for position in count..log.len() {
         if let Some(row) = log.row(position) {

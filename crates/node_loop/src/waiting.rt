@@ -1,5 +1,5 @@
 //! Who waits for which request.
-ghost use Rattle.std.specs.Prelude.{◌≡◌, ◌∷◌, ◌++◌, [], not, Some, OnOk, if◌then◌else◌};
+ghost use Rattle.std.specs.Prelude.{◌≡◌, ◌∷◌, ◌++◌, [], not, false, Some, OnOk, OnErr, if◌then◌else◌};
 ghost use Rattle.std.specs.BTreeMap.{get};
 ghost use Rattle.std.specs.List.{list_any};
 ghost use Rattle.node_loop.specs.declared.waiting.Asked.{Asked};
@@ -105,9 +105,10 @@ impl Waiters {
         Ok(())
     }
 
-    /// One more waits, unless it waits already. The one error is want of memory.
+    /// One more waits, unless it waits already. The one error is want of memory, which comes only where it doesn't.
     pub(crate) fn push(&mut self, alloc: Global, asked: Asked, conn: Option<u32>) -> Result<(), Mem>
         ensures waits { (ws : waiting) → IsWaiting self.old ws → OnOk result (IsWaiting self.new (with_waiter asked conn ws)) }
+        ensures memory { (ws : waiting) → IsWaiting self.old ws → OnErr result (list_any (is_conn conn) (ws asked) ≡ false) }
     {
         if self.has_conn(asked, conn) {
             return Ok(());

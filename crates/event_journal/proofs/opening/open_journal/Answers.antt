@@ -2,7 +2,6 @@ use Rattle.std.proofs.Common.{◌≡◌, ◌≤◌, length, reverse, IfOk, Err, 
 use Rattle.outside.specs.Disks.{DiskState, at_rest, disk_state_of}
 use Rattle.outside.specs.DisksLaws.{leaves_then, leaves_weaker, seen_image}
 use Rattle.schedule_file.specs.FileBytes.{limit}
-use Rattle.ritas_base.specs.declared.event.Event.{Event}
 use Rattle.std.proofs.lemmas.Result.{IfOk-weaker}
 use Rattle.event_journal.specs.Journal.{IsUnmade, OpensAs}
 use Rattle.event_journal.specs.Reading.{IsForeign, OpensAsKept, OpensLike}

@@ -1,11 +1,12 @@
 use Rattle.std.proofs.Common.{◌++◌, map, sym, ap, ◌∙◌, subst, arith}
 use Rattle.std.specs.Option.{option_copied}
+use Rattle.std.proofs.lemmas.Result.{err_from_is_err_and}
 use Rattle.node_loop.specs.declared.waiting.Waiters.{Waiters}
 use Rattle.node_loop.specs.Waiting.{Waiting, without_asked}
 use Rattle.node_loop.specs.Calls.{asked_by, waiting_left_by, replies_by}
 use Rattle.node_loop.specs.Standing.{reply_by}
 use Rattle.node_loop.specs.WaitersStanding.{IsWaiting}
-use Rattle.node_loop.proofs.Rows.{first, starts, enters_more, no_row, all_first}
+use Rattle.node_loop.proofs.Rows.{first, starts, enters_more, no_row, all_first, some_by_row}
 use Rattle.node_loop.proofs.enter.enter_rows.Goals as goal
 use Rattle.node_loop.proofs.enter.enter_rows.Goals.{in-Some+in_ok-enter_row, in_default}
 
@@ -37,4 +38,14 @@ returns c = record {
         subst P (ap (λ rows. waiting_left_by c.args.at c.args.count rows ws) all) done.waits,
         done.replies ∙ ap (λ rows. map (reply_by c.args.at) c.args.replies.now.items ++ replies_by c.args.at c.args.count rows ws) all,
       );
+  memory = λ ws is. tt;
 }
+
+pub returns-in_err-enter_row-clause-memory : goal.returns-in_err-enter_row-clause-memory
+returns-in_err-enter_row-clause-memory c = λ ws is.
+    let p = err_from_is_err_and c.from_residual.result c.from_residual.ensures.1 in
+    let rows = c.args.log.now.rows in
+    let before = c.loop-position.invariant ws is in
+    let left = waiting_left_by c.args.at c.args.count (first rows c.loop-position.position) ws in
+    rw p.1 (some_by_row c.args.at c.args.count rows c.loop-position.position c.in-Some.row.now ws c.loop-position.auto.position
+    (sym c.row.ensures ∙ ap option_copied c.in-Some.is) (c.in_err-enter_row.ensures.memory left before.waits))

@@ -18,7 +18,7 @@ invariant_of-self-2 c =
       | then-place-number+else-self w ↦ λ t. (w.if-place-number.true ∙ c.from-number.ensures, none_stands c.self.inside.kept.entries (w.is_empty.ensures.0 (sym w.by_number-is ∙ t)))
       | else-place-number w ↦ λ t. absurd (w.if-place-number.false (eqb-true c.in-Some.place c.from-number.result (sym w.by_number-is ∙ t)))
     ] in
-    let made = c.in-Ok.ensures.entries ∙ inserted c.self.inside.kept.entries place _ c.in-Some.ensures in
+    let made = c.in-Ok.ensures.entries ∙ inserted c.self.inside.kept.entries place _ c.in-Some.ensures.behind in
     rw (made, c.in_ok-copy.ensures)
     (lane_more c.self.inside.bytes c.args.seq place c.args.frame.now c.self.inside.by_number c.if-place-number.by_number c.self.inside.kept.entries
     c.self.invariant (omega arith) by)
@@ -26,5 +26,5 @@ invariant_of-self-2 c =
 pub returns-clause-ok : goal.returns-clause-ok
 returns-clause-ok c =
     let kept : Kept = record { seq = c.args.seq; frame = c.in_ok-copy.copy } in
-    ap values_of (c.in-Ok.ensures.entries ∙ inserted c.self.inside.kept.entries c.in-Some.place kept c.in-Some.ensures)
+    ap values_of (c.in-Ok.ensures.entries ∙ inserted c.self.inside.kept.entries c.in-Some.place kept c.in-Some.ensures.behind)
     ∙ (values_behind c.self.inside.kept.entries c.in-Some.place kept ∙ ap₂ (λ (xs : List Kept) (frame : List ℕ). xs ++ record { seq = c.args.seq; frame = frame } ∷ []) c.self.view_is c.in_ok-copy.ensures)

@@ -1,4 +1,4 @@
-use Rattle.std.proofs.Common.{◌≡◌, ◌++◌, List, map, refl, subst, ap, ◌∙◌}
+use Rattle.std.proofs.Common.{◌≡◌, ◌≢◌, [], ◌++◌, List, OnErr, map, refl, subst, ap, ◌∙◌}
 use Rattle.std.proofs.lemmas.Result.{on_ok_weaker}
 use Rattle.command_log.specs.Rows.{Row}
 use Rattle.world_model.specs.Agree.{rows_at}
@@ -21,6 +21,14 @@ returns-in-Some-clause-enters g c = λ w es numbers ws p stand number.
       entered.1 ∙ ap (λ x. map (reply_by at) c.args.output.now.replies.items ++ replies_by at c.args.count x ws) rows,
     ))
     (c.enter_rows.ensures.enters ws stand.waiting)
+
+pub returns-in-Some-clause-memory : goal.returns-in-Some-clause-memory
+returns-in-Some-clause-memory g c = λ w es numbers ws p stand number.
+    let at = c.args.output.now.at in
+    let is = read_at _ w es numbers c.args.self.now.replicas.items c.deref.result.now c.args.place at c.in-Some.replica.now stand.here c.deref.ensures.value number c.in-Some.ensures.lookup.3.0 c.in-Some.ensures.lookup.1 in
+    let rows : c.log.result.now.rows ≡ rows_at w es at = log_at _ w es at c.in-Some.replica.now c.log.result.now.rows is c.log.ensures.live in
+    let P : List Row → Type 0 = λ x. OnErr c.enter_rows.result (replies_by at c.args.count x ws ≢ []) in
+    subst P rows (c.enter_rows.ensures.memory ws stand.waiting)
 
 pub returns-in-None-clause-enters : goal.returns-in-None-clause-enters
 returns-in-None-clause-enters g c = λ w es numbers ws p stand number.

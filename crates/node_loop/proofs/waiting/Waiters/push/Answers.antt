@@ -4,7 +4,7 @@ use Rattle.node_loop.specs.declared.waiting.Asked.{Asked}
 use Rattle.node_loop.specs.WaitersStanding.{IsWaiting, asked_cmp, conns_in, is_listed, is_same_caller}
 use Rattle.std.specs.List.{list_any}
 use Rattle.node_loop.specs.Waiting.{is_conn, is_same_request, with_waiter}
-use Rattle.node_loop.proofs.Indexing.{pushed, pushed_so}
+use Rattle.node_loop.proofs.Indexing.{pushed, pushed_so, at_error}
 use Rattle.node_loop.proofs.waiting.Waiters.push.Goals as goal
 
 pub returns-in-Some : goal.returns-in-Some
@@ -27,4 +27,5 @@ returns-in-Some c = record {
       ∙ ap (λ index. is_same_caller (record { at = c.args.asked.at; conn = c.in-Some.conn }) k && is_same_request c.args.asked a || is_listed index k a)
       c.in_ok-put.ensures.index))
       c.add.ensures.adds);
+  memory = λ ws is. at_error c.add.result (sym (c.has_conn.ensures.waits ws is) ∙ c.if-has_conn.false);
 }
