@@ -98,7 +98,7 @@ item_acts keys (Reminded i j) (y ∷ group) = refl
 item_acts keys (Took item) [] = refl
 item_acts keys (Took item) (y ∷ group) = refl
 
-items_acts : (keys : ℕ → KeyRow) (group : List Round) → map (act_of keys) (came_in group) ≡ given_in group
+pub items_acts : (keys : ℕ → KeyRow) (group : List Round) → map (act_of keys) (came_in group) ≡ given_in group
 items_acts keys [] = refl
 items_acts keys (x ∷ group) =
     map-append (act_of keys) (came_for x group) (came_in group) ∙ ap₂ (λ (a b : List LinkAct). a ++ b) (item_acts keys x group) (items_acts keys group)
@@ -125,7 +125,7 @@ with_behind frames more replies ds e =
     ap (pushed (map Replied replies)) (ap (pushed more) (pushed_behind (map Made frames) ds e) ∙ pushed_behind more made e)
     ∙ pushed_behind (map Replied replies) (pushed more made) e
 
-newest_behind : (w : Setting) (past : List Event) (start : Serving) (ds e : List Deed) (group : List Round)
+pub newest_behind : (w : Setting) (past : List Event) (start : Serving) (ds e : List Deed) (group : List Round)
     → newest_deeds w past start (ds ++ e) group ≡ newest_deeds w past start ds group ++ e
 newest_behind w past start ds e [] = refl
 newest_behind w past start ds e (x ∷ group) =
@@ -200,7 +200,7 @@ item_besides w es (items.Down at peer) p = tt
 item_besides w es (items.Left at conn) p = tt
 item_besides w es items.End p = tt
 
-made_next : (w : Setting) (es : List Event) (past : List Event) (o : Option Event) → all_made w (onto o es ++ past) ≡ all_made w (es ++ past) ++ frames_made_by w (es ++ past) o
+pub made_next : (w : Setting) (es : List Event) (past : List Event) (o : Option Event) → all_made w (onto o es ++ past) ≡ all_made w (es ++ past) ++ frames_made_by w (es ++ past) o
 unfolding all_made
 made_next w es past None = sym (append-nil (all_made w (es ++ past)))
 made_next w es past (Some e) = refl

@@ -33,3 +33,4 @@ pub mod Journaling
 pub mod Recalling
 pub mod AfterPast
 pub mod Serverwise
+pub mod Printing

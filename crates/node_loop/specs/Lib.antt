@@ -28,3 +28,4 @@ pub mod Rows
 pub mod PeerRows
 pub mod Recalling
 pub mod Again
+pub mod LivesPrint

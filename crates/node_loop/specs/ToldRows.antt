@@ -1,10 +1,14 @@
--- Worked rows: what the link gives for groups of rounds, and which rounds join one.
+-- Worked rows: what the link gives for groups of rounds, which rounds join one, and what goes out for the first time.
 use Rattle.std.specs.Prelude.{◌≡◌, ℕ, true, false, List, [], ◌∷◌, ◌++◌, refl}
 use Rattle.ritas_base.specs.declared.event.Event.{Event}
 use Rattle.outside.specs.Links.{Gives, GivesNow}
 use Rattle.outside.specs.declared.link.LinkItem.{LinkItem}
+use Rattle.outside.specs.declared.link.Sent.{Sent}
+use Rattle.world_model.specs.MadeOrder.{MadeFrame}
 use Rattle.world_model.specs.World.{Setting}
-use Rattle.node_loop.specs.Deeds.{Came}
+use Rattle.node_loop.specs.Deeds.{Came, Made, Resent, Acked, Replied}
+use Rattle.node_loop.specs.Laws.{sent_as}
+use Rattle.node_loop.specs.LivesPrint.{first_sendings}
 use Rattle.node_loop.specs.Serving.{Serving, Round, Began, Turned, Reminded, Took, after_from}
 use Rattle.node_loop.specs.Told.{given_in, came_in, news_from, told_from, deeds_from, newest_deeds, all_rounds, Joins, is_taken_up}
 
@@ -51,3 +55,9 @@ full_row a = refl
 
 turn_row : is_taken_up (Turned 0) ≡ false
 turn_row = refl
+
+-- frames of calls, in the order in which they went out; one that goes out again is none, nor are notes, replies and items
+sendings_row : (f g : MadeFrame) (frame : List ℕ) (reply : Sent) (item : LinkItem)
+    → first_sendings (Replied reply ∷ Made g ∷ Acked 0 1 2 ∷ Resent 0 1 frame ∷ Made f ∷ Came false item ∷ [])
+    ≡ sent_as f ∷ sent_as g ∷ []
+sendings_row f g frame reply item = refl

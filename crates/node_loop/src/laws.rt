@@ -3,8 +3,13 @@ ghost use Rattle.node_loop.specs.Laws.{OneRun, GroupsAreRounds, RoundsGrow, Grou
 ghost use Rattle.node_loop.specs.Laws.{RecalledAreSent, RecalledAreOpen, AcksAreEarned, EventsFit, RepliesAreTrue, KeptMakes};
 ghost use Rattle.node_loop.specs.EarnedRounds.{AcksAreOfRounds};
 ghost use Rattle.node_loop.specs.Keeping.{KeptStands, KeptIsShort};
+ghost use Rattle.node_loop.specs.LivesPrint.{LivesPrint, AllLivesPrint};
+ghost use Rattle.node_loop.specs.Meanings.{meaning_of};
 
+use event_journal::journal_laws;
 use layer_api::{Broadcast, Service};
+use outside::Disk;
+use ritas_base::Coin;
 
 /// Serving is a function of what it begins with and of the items that the link gives: of two runs over one list of items, each as far as it
 /// came, the rounds of the one are the first of the other's. In which groups they were delivered changes nothing of them.
@@ -87,8 +92,8 @@ pub fn kept_stands()
     ensures stands { KeptStands }
 {}
 
-/// The frames that the kept events make are those that all events make, in their order. So of a node that is started again with its journal
-/// `replay frames` prints each frame that left in any life.
+/// The frames that the kept events make are those that all events make, in their order. What follows of the lives of a
+/// node that keeps a journal is `lives_print`.
 ///
 /// It does nothing: its contract is the law.
 pub fn kept_makes()
@@ -101,3 +106,16 @@ pub fn kept_makes()
 pub fn kept_is_short()
     ensures short { KeptIsShort }
 {}
+
+/// Whatever ends a life that `serve_kept` serves, each image that the disk may leave then opens as events that make the
+/// frames of the recovered ones first. Behind these they make each frame that the link took for the first time in this
+/// life, in order. So what the last of several lives left makes the first sendings of each, and so do events that have
+/// it in front, as those of a file of a later life.
+///
+/// It does nothing: its contract is the law.
+pub fn lives_print<S: Service, E: Broadcast, C: Coin, D: Disk>()
+    ensures one { LivesPrint (meaning_of S.Service E.Broadcast C.Coin) D.Disk }
+    ensures all { AllLivesPrint }
+{
+    journal_laws();
+}
