@@ -2,3 +2,4 @@ pub mod Tallies
 pub mod Standing
 pub mod Positions
 pub mod Written
+pub mod Pieces

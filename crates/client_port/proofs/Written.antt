@@ -1,15 +1,15 @@
 -- What is written is read.
-use Rattle.std.specs.Prelude.{◌≡◌, ℕ, ◌+◌, ◌<◌, ◌≤◌, ◌^◌, ◌==◌, true, ◌&&◌, nat_le, nat_lt, List, ◌∷◌, ◌++◌, length, take, drop, slice_index, Some, None, Ok, refl}
+use Rattle.std.specs.Prelude.{◌≡◌, ℕ, suc, ◌+◌, ◌<◌, ◌≤◌, ◌^◌, ◌==◌, Bool, true, ◌&&◌, nat_le, nat_lt, List, [], ◌∷◌, ◌++◌, length, take, drop, slice_index, if◌then◌else◌, Some, None, Ok, refl}
 use Rattle.std.specs.Int.{w32, to_be_bytes, from_be_bytes}
 use Rattle.std.proofs.Common.{sym, ◌∙◌, ap, ap₂, inl, inr, arith, get_or, length-drop}
-use Rattle.std.proofs.lemmas.List.{get_or-take, get_or-drop, get_or_past, length-take, length-take-le, take-append-drop, drop-drop}
-use Rattle.std.proofs.lemmas.Bool.{cases_Bool, ltb-true, ltb-false, and_from, and_parts, le-leb, leb-true, lt-ltb, eq-eqb, cond-true}
+use Rattle.std.proofs.lemmas.List.{get_or-take, get_or-drop, get_or_past, length-take, length-take-le, take-append-drop, take_all, drop-drop}
+use Rattle.std.proofs.lemmas.Bool.{cases_Bool, ltb-true, ltb-false, and_from, and_parts, le-leb, leb-true, lt-ltb, lt-leb, eq-eqb, eqb-true, cond-true}
 use Rattle.std.proofs.lemmas.Option.{cond_some}
 use Rattle.std.proofs.lemmas.Nat.{be_bytes_4, from_be_bytes-to_be_bytes_4}
 use Rattle.ritas_base.specs.Limits.{request_front, least_request, longest_input}
-use Rattle.client_port.specs.Messages.{Request, four_bytes_at, request_bytes, request_in, request_parts, form_in, client_in, request_number_in, reply_number_in, reply_bytes}
+use Rattle.client_port.specs.Messages.{Request, four_bytes_at, request_bytes, request_in, request_parts, query_bytes, query_in, form_in, client_in, request_number_in, reply_number_in, reply_bytes}
 use Rattle.client_port.specs.Votes.{Wanted, ReplyCall, is_reply_wanted, replied, settled, reply_fault_of, answer_but, answer_of}
-use Rattle.client_port.specs.Laws.{RequestIsRead, RequestWasWritten, position_from, refusal_from, PositionIsRead, RefusalIsRead}
+use Rattle.client_port.specs.Laws.{RequestIsRead, RequestWasWritten, position_from, refusal_from, PositionIsRead, RefusalIsRead, QueryIsRead, QueryWasWritten, QueryIsNoRequest}
 use Rattle.client_port.specs.declared.votes.ReplyFault.TheVariants.{Refused}
 use Rattle.client_port.proofs.Tallies.{no_fault, replied_now, replied_same}
 
@@ -114,3 +114,40 @@ refusal_is_read w h from code awaited small =
       ap (λ o. answer_but o (settled w (c ∷ h) (reply_number_in c.bytes))) wrong,
       replied_same w h c (Refused code) wrong,
     )
+
+-- ---- queries
+
+pub query_is_read : QueryIsRead
+unfolding query_in four_bytes_at
+query_is_read position small = ap Some (from_be_bytes-to_be_bytes_4 position small)
+
+-- what a query is
+record IsQuery (bytes : List ℕ) (position : ℕ) : Type 0 where
+  long : length bytes ≡ 5
+  first : slice_index bytes 0 ≡ 76
+  asks : four_bytes_at 1 bytes ≡ position
+
+is_query : (bytes : List ℕ) (position : ℕ) → query_in bytes ≡ Some position → IsQuery bytes position
+unfolding query_in
+is_query bytes position e =
+    let parts = cond_some ((length bytes == 5) && (slice_index bytes 0 == 76)) (four_bytes_at 1 bytes) position e in
+    let both = and_parts (length bytes == 5) (slice_index bytes 0 == 76) parts.0 in
+    record { long = eqb-true (length bytes) 5 both.0; first = eqb-true (slice_index bytes 0) 76 both.1; asks = parts.1 }
+
+written : (bytes : List ℕ) (position : ℕ) → IsQuery bytes position → ((k : ℕ) → slice_index bytes k < 256) → bytes ≡ query_bytes position
+unfolding four_bytes_at
+written [] position is small = absurd (let long = is.long in omega (arith, long))
+written (x ∷ bytes) position is small =
+    let long = is.long in
+    let all = take_all 4 bytes (omega (arith, long)) in
+    let number = four bytes (λ k. small (suc k)) (omega (arith, long)) in
+    ap₂ (λ y l. y ∷ l) is.first (sym (number ∙ all) ∙ ap (to_be_bytes w32) is.asks)
+
+pub query_was_written : QueryWasWritten
+query_was_written bytes position small e = written bytes position (is_query bytes position e) small
+
+pub query_is_no_request : QueryIsNoRequest
+unfolding request_in
+query_is_no_request bytes position e =
+    let long = (is_query bytes position e).long in
+    ap (λ (b : Bool). if b && nat_le (length bytes) longest_input then Some (request_parts bytes) else None) (lt-leb least_request (length bytes) (omega (arith, long)))

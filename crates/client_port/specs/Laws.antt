@@ -2,7 +2,7 @@
 use Rattle.std.specs.Prelude.{◌≡◌, ℕ, ◌+◌, ◌-◌, ◌^◌, ◌<◌, ◌≤◌, Bool, true, List, [], ◌∷◌, length, slice_index, count_by, Option, Some, None, Ok, Err}
 use Rattle.ritas_base.specs.History.{replicas}
 use Rattle.ritas_base.specs.Limits.{request_front, least_request, longest_payload}
-use Rattle.client_port.specs.Messages.{Request, request_bytes, request_in, position_reply, refusal_reply}
+use Rattle.client_port.specs.Messages.{Request, request_bytes, request_in, query_bytes, query_in, position_reply, refusal_reply}
 use Rattle.client_port.specs.Votes.{Wanted, ReplyCall, position_said, replied, settled, answer_of}
 use Rattle.client_port.specs.declared.votes.ReplyFault.TheVariants.{Refused}
 
@@ -47,6 +47,21 @@ RequestIsRead = (r : Request) → HasRoom r → request_in (request_bytes r) ≡
 -- and nothing else is
 abbrev pub RequestWasWritten : Type 0
 RequestWasWritten = (bytes : List ℕ) (r : Request) → ((k : ℕ) → slice_index bytes k < 256) → request_in bytes ≡ Some r → bytes ≡ request_bytes r
+
+-- ---- queries
+
+-- what is written is read
+abbrev pub QueryIsRead : Type 0
+QueryIsRead = (position : ℕ) → position < 2 ^ 32 → query_in (query_bytes position) ≡ Some position
+
+-- and nothing else is
+abbrev pub QueryWasWritten : Type 0
+QueryWasWritten = (bytes : List ℕ) (position : ℕ) → ((k : ℕ) → slice_index bytes k < 256) → query_in bytes ≡ Some position
+    → bytes ≡ query_bytes position
+
+-- no query is a request
+abbrev pub QueryIsNoRequest : Type 0
+QueryIsNoRequest = (bytes : List ℕ) (position : ℕ) → query_in bytes ≡ Some position → request_in bytes ≡ None
 
 -- ---- replies
 

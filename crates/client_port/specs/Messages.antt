@@ -1,5 +1,6 @@
--- What clients and replicas say to each other: requests and replies, as lists of bytes. Numbers have four bytes, the most significant first.
-use Rattle.std.specs.Prelude.{ℕ, ◌&&◌, nat_le, List, ◌∷◌, ◌++◌, length, take, drop, slice_index, Option, Some, None, if◌then◌else◌}
+-- What clients and replicas say to each other: requests, queries and replies, as lists of bytes. Numbers have four
+-- bytes, the most significant first.
+use Rattle.std.specs.Prelude.{ℕ, ◌==◌, ◌&&◌, nat_le, List, ◌∷◌, ◌++◌, length, take, drop, slice_index, Option, Some, None, if◌then◌else◌}
 use Rattle.std.specs.Int.{w32, to_be_bytes, from_be_bytes}
 use Rattle.ritas_base.specs.Limits.{request_front, least_request, longest_input}
 
@@ -25,6 +26,16 @@ request_parts bytes = record { client = four_bytes_at 0 bytes; request = four_by
 -- the request that a message is, which has `least_request` (8) to `longest_input` (4,096) bytes
 unfoldable pub request_in : List ℕ → Option Request
 request_in bytes = if nat_le least_request (length bytes) && nat_le (length bytes) longest_input then Some (request_parts bytes) else None
+
+-- ---- queries
+
+-- a query asks for the rows of a log from a position on
+abbrev pub query_bytes : ℕ → List ℕ
+query_bytes position = 76 ∷ to_be_bytes w32 position
+
+-- the position that a message asks for: it has five bytes, and the first is that of a query
+unfoldable pub query_in : List ℕ → Option ℕ
+query_in bytes = if (length bytes == 5) && (slice_index bytes 0 == 76) then Some (four_bytes_at 1 bytes) else None
 
 -- ---- replies
 

@@ -4,7 +4,7 @@ use Rattle.std.proofs.Common.{arith, lit<, lit≤}
 use Rattle.std.proofs.lemmas.Bool.{lt-ltb}
 use Rattle.ritas_base.specs.Limits.{longest_payload}
 use Rattle.client_port.specs.Laws.{HasRoom, IsFromLog, IsLogged, PositionLaw}
-use Rattle.client_port.specs.Messages.{Request, four_bytes_at, request_bytes, request_in, position_reply, refusal_reply}
+use Rattle.client_port.specs.Messages.{Request, four_bytes_at, request_bytes, request_in, query_bytes, query_in, position_reply, refusal_reply}
 use Rattle.client_port.specs.Votes.{Wanted, ReplyCall, tally, reply_fault_of, answer_of}
 use Rattle.client_port.specs.declared.votes.ReplyFault.TheVariants as faults
 
@@ -164,3 +164,20 @@ three_are_enough : PositionLaw → IsLogged wanted is_correct log 5
 unfolding answer_of reply_fault_of four_bytes_at
 three_are_enough law = law wanted is_correct log (gives 3 9 ∷ gives 0 5 ∷ []) (gives 2 5) 5 (lit≤ tt)
     ((λ position correct is. is), ((λ position correct is. absurd cc), ((λ position correct is. is), tt))) refl
+
+-- ---- queries
+
+query_is_written : query_bytes 258 ≡ 76 ∷ 0 ∷ 0 ∷ 1 ∷ 2 ∷ []
+query_is_written = refl
+
+asks_for_258 : query_in (76 ∷ 0 ∷ 0 ∷ 1 ∷ 2 ∷ []) ≡ Some 258
+unfolding query_in four_bytes_at
+asks_for_258 = refl
+
+other_letter : query_in (77 ∷ 0 ∷ 0 ∷ 1 ∷ 2 ∷ []) ≡ None
+unfolding query_in four_bytes_at
+other_letter = refl
+
+one_byte_missing : query_in (76 ∷ 0 ∷ 0 ∷ 1 ∷ []) ≡ None
+unfolding query_in four_bytes_at
+one_byte_missing = refl

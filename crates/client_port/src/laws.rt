@@ -1,6 +1,6 @@
 //! The laws of messages, for clients: a position that f + 1 replicas give is true, and what is written is read.
 
-ghost use Rattle.client_port.specs.Laws.{PositionLaw, RequestIsRead, RequestWasWritten, PositionIsRead, RefusalIsRead};
+ghost use Rattle.client_port.specs.Laws.{PositionLaw, RequestIsRead, RequestWasWritten, PositionIsRead, RefusalIsRead, QueryIsRead, QueryWasWritten, QueryIsNoRequest};
 
 /// A law: let at least n - f of n replicas give no other position than that at which the request stands in their own
 /// log. Then a position that `Votes::reply` answers is that of the request in the log of one of them, whatever the
@@ -27,4 +27,13 @@ pub fn requests_are_read()
 pub fn replies_are_read()
     ensures position { PositionIsRead }
     ensures refusal { RefusalIsRead }
+{}
+
+/// The laws of queries: one that is written is read as it was, and what is read was written so. No query is a request.
+///
+/// It does nothing: its contract is the law.
+pub fn queries_are_read()
+    ensures read { QueryIsRead }
+    ensures written { QueryWasWritten }
+    ensures no_request { QueryIsNoRequest }
 {}

@@ -5,7 +5,7 @@ ghost use Rattle.client_port.specs.Messages.{four_bytes_at};
 
 /// The number in the four bytes from a place on, the most significant first.
 #[tactic(auto, unfolding(crate::specs::Messages::four_bytes_at))]
-pub(crate) fn number_at(bytes: &[u8], at: usize) -> u32
+pub fn number_at(bytes: &[u8], at: usize) -> u32
     requires { at + 4 ≤ length bytes.now }
     ensures { result ≡ four_bytes_at at bytes.now }
 {

@@ -5,4 +5,5 @@ pub mod ByteKeys
 pub mod Standing
 pub mod Worked
 pub mod Fits
+pub mod Pieces
 pub mod Laws

@@ -23,12 +23,12 @@ abbrev pub plan_of : List (List ℕ) → LinkPlan
 plan_of nodes = plans.Client nodes
 
 -- the message goes to a node
-abbrev pub request_sent_to : List ℕ → ℕ → LinkAct
-request_sent_to message node = Sends (record { at = 0; to = node; bytes = message })
+abbrev pub message_sent_to : List ℕ → ℕ → LinkAct
+message_sent_to message node = Sends (record { at = 0; to = node; bytes = message })
 
 -- it goes to each of n nodes, in ascending order
 abbrev pub sent_to_each : ℕ → List ℕ → List LinkAct
-sent_to_each n message = each_act (request_sent_to message) (replicas n)
+sent_to_each n message = each_act (message_sent_to message) (replicas n)
 
 -- the calls with which a request with this payload is handed in to these nodes
 abbrev pub handed_in : Wanted → List (List ℕ) → List ℕ → List LinkAct

@@ -46,8 +46,9 @@ fn prepared(
     Ok((LinkPlan::Client { nodes }, message))
 }
 
-// Starts the link, and sends the message to each node.
-fn hand_in<R: Net + Wait, L: Link>(
+/// Starts a link by its plan, and sends a message to each of so many nodes, in ascending order and with 0 as the replica
+/// that sends. No call follows one that fails or is without memory.
+pub fn hand_in<R: Net + Wait, L: Link>(
     rt: &R,
     alloc: Global,
     count: u8,

@@ -4,7 +4,8 @@
 //! correct, and has the request there (`position_is_one_of_logs`). The rule is that of Castro and Liskov, "Practical Byzantine
 //! Fault Tolerance" (OSDI 1999).
 //!
-//! `submit` does it over any link; `specs/Submitting.antt` says which calls of the link it makes, in which order, and how it ends.
+//! `submit` does it over any link; `specs/Submitting.antt` says which calls of the link it makes, in which order, and how
+//! it ends. Whoever watches a log begins in the same way, by `hand_in`.
 #![tactic(auto)]
 
 mod awaiting;
@@ -13,5 +14,5 @@ mod handing;
 mod laws;
 
 pub use end::SubmitEnd;
-pub use handing::submit;
+pub use handing::{hand_in, submit};
 pub use laws::position_is_one_of_logs;

@@ -1,0 +1,4 @@
+pub mod Watching
+pub mod Waiting
+pub mod Laws
+pub mod Rows

@@ -1,0 +1,9 @@
+pub mod Rows
+pub mod Right
+pub mod Places
+pub mod Backing
+pub mod Entered
+pub mod Faults
+pub mod Standing
+pub mod Parts
+pub mod Spelling

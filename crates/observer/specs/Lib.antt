@@ -1,0 +1,5 @@
+pub mod Reading
+pub mod Watching
+pub mod Standing
+pub mod Laws
+pub mod Rows
