@@ -25,8 +25,6 @@ mod laws;
 mod refusal;
 mod replica;
 mod sending;
-#[cfg(test)]
-mod tests;
 
 pub use frame::OutFrame;
 pub use laws::{isolation, made_by_entry, made_in_all, made_length};

@@ -4,21 +4,13 @@
 
 mod configs;
 mod drives;
-#[cfg(test)]
-mod fault_tests;
 mod host;
-#[cfg(test)]
-mod journal_tests;
 mod keys;
 mod lines;
 mod refusals;
 mod requests;
 mod run;
-#[cfg(test)]
-mod serving_tests;
 mod sessions;
-#[cfg(test)]
-mod tests;
 
 use outside::{FileDisk, FromRead, ToWrite};
 use ritas_base::Mem;

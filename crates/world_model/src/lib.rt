@@ -50,8 +50,6 @@ mod seats;
 mod seen;
 mod standing;
 mod taken;
-#[cfg(test)]
-mod tests;
 mod watch;
 mod world;
 
