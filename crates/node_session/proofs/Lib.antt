@@ -6,3 +6,4 @@ pub mod Kept
 pub mod Sessions
 pub mod Here
 pub mod Headings
+pub mod NodePrints

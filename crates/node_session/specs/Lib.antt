@@ -2,3 +2,4 @@ pub mod Opening
 pub mod Session
 pub mod Configs
 pub mod Lives
+pub mod NodePrints

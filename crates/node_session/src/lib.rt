@@ -12,9 +12,11 @@
 
 mod closing;
 mod configs;
+mod laws;
 mod life;
 mod opening;
 mod session;
 
 pub use configs::{serve_cluster, serve_node};
+pub use laws::node_lives_print;
 pub use session::{Session, serve_session};
