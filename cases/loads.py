@@ -56,10 +56,14 @@ class Load:
         self.desks = {me: self.DESK(port) for me, port in ports.items()}
         self.commands, self.is_moving, self.patience, self.quiet = [], is_moving, patience, quiet
 
+    @staticmethod
+    def payload(place: int) -> bytes:
+        return b"x" * (place % 50)
+
     def add(self, count: int) -> list:
         """So many new commands, for each node."""
         start = len(self.commands)
-        added = [Command(1 + place % 5, place, b"x" * (place % 50)) for place in range(start, start + count)]
+        added = [Command(1 + place % 5, place, self.payload(place)) for place in range(start, start + count)]
         self.commands += added
         for desk in self.desks.values():
             desk.ahead.extend(added)
