@@ -46,6 +46,10 @@ length_bytes = 2
 abbrev pub longest_piece : ℕ
 longest_piece = 65535
 
+-- a reply of a node with at most so many bytes tells nothing new: it is a piece of a log that has no rows
+abbrev pub little_bytes : ℕ
+little_bytes = 6
+
 -- with so many bytes that came there is a whole piece among them, and no more are read
 abbrev pub many_came : ℕ
 many_came = length_bytes + longest_piece

@@ -1,5 +1,5 @@
 -- Worked rows, each of which fails where a definition is turned.
-use Rattle.std.specs.Prelude.{◌≡◌, ℕ, true, false, [], ◌∷◌, replicate, Some, None, refl}
+use Rattle.std.specs.Prelude.{◌≡◌, ℕ, List, true, false, [], ◌∷◌, replicate, Some, None, refl}
 use Rattle.std.specs.Fn.{iterate}
 use Rattle.tcp_link.specs.Names.{naming, admits_one_more, has_client_room, link_item_of, whom_at, numbered_after, most_of, most_kept, sent_through, up_of, told_at_end, dial_again, told_first}
 use Rattle.tcp_link.specs.Outcomes.{moved_at, reads_on, change_seen, nobody_at}
@@ -7,7 +7,7 @@ use Rattle.tcp_link.specs.Queues.{Queue, empty_queue, next_of, without_next, wit
 use Rattle.tcp_link.specs.Stages.{first_stage, stage_after, is_read, is_written}
 use Rattle.tcp_link.specs.Tokens.{token_of, serial_after, connection_place, ends_of_all, spares_for, replica_count}
 use Rattle.tcp_link.specs.Waits.{WaitEnd, first_clock, after_wait, after_waits, after_work, retry_due_microseconds, look_due_microseconds}
-use Rattle.tcp_link.specs.Sides.{most_looks, looked, piece_kept, side_read}
+use Rattle.tcp_link.specs.Sides.{most_looks, looked, piece_kept, side_read, is_side_ready, off_given, resting, rested}
 use Rattle.outside.specs.declared.link.LinkItem.TheVariants.{Frame}
 use Rattle.std.specs.declared.io.ErrorKind.TheVariants.{WouldBlock, Interrupted, ConnectionAborted, ConnectionReset}
 use Rattle.tcp_link.specs.declared.agenda.Next.TheVariants as next
@@ -293,6 +293,7 @@ new_peer = record {
   dial = None;
   is_hung_up = false;
   has_given = false;
+  gave_little = false;
   is_blocked = false;
   behind = None;
   newer = None;
@@ -303,7 +304,7 @@ new_peer = record {
   has_sent = false;
   ticks = 0;
   idle_ticks = 0;
-  listed = record { reads = false; writes = false; gives = false; drains = false; looks = true };
+  listed = record { reads = false; writes = false; gives = false; drains = false; looks = true; rests = false };
   input = [];
   output = [];
 }
@@ -325,6 +326,22 @@ answered = refl
 
 answered_at_last : (iterate looked 100 (side_read (iterate looked 11 (piece_kept new_peer (7 ∷ []))) (moved.Bytes 1) (9 ∷ []))).stage ≡ Up
 answered_at_last = refl
+
+-- a node whose piece has six bytes isn't written to before a pause is over, and one whose piece has seven is
+abbrev node_with : List ℕ → Side
+node_with bytes = resting (off_given (record new_peer { whom = Node 1; input = bytes }))
+
+abbrev six_bytes : List ℕ
+six_bytes = 0 ∷ 6 ∷ 3 ∷ 0 ∷ 0 ∷ 0 ∷ 1 ∷ 0 ∷ []
+
+node_rests : is_side_ready (node_with six_bytes) ≡ false
+node_rests = refl
+
+node_rested : is_side_ready (rested (node_with six_bytes)) ≡ true
+node_rested = refl
+
+node_goes_on : is_side_ready (node_with (0 ∷ 7 ∷ 3 ∷ 0 ∷ 0 ∷ 0 ∷ 1 ∷ 0 ∷ 0 ∷ [])) ≡ true
+node_goes_on = refl
 
 -- one that told no number ends at the first look
 stranger_ends : (looked (record new_peer { whom = Unnamed 1 })).stage ≡ Over

@@ -1,7 +1,7 @@
 -- What is known of a connection without its stream, and what becomes of it.
 use Rattle.std.specs.Prelude.{◌≡◌, ◌⊎◌, ℕ, ◌+◌, ◌-◌, ◌≤◌, nat_eq, is_none, is_some, Bool, true, false, not, ◌&&◌, ◌||◌, nat_lt, nat_le, List, [], ◌++◌, length, take, drop, Option, Some, None, if◌then◌else◌}
 use Rattle.outside.specs.declared.link.LinkItem.{LinkItem}
-use Rattle.tcp_link.specs.Limits.{length_bytes, many_came, many_kept, looks_of_dial, looks_of_node, looks_of_stranger, looks_of_peer, looks_of_half_closed, most_idle_ticks, most_ticks}
+use Rattle.tcp_link.specs.Limits.{length_bytes, little_bytes, many_came, many_kept, looks_of_dial, looks_of_node, looks_of_stranger, looks_of_peer, looks_of_half_closed, most_idle_ticks, most_ticks}
 use Rattle.tcp_link.specs.Queues.{Queue, with_frame_last, with_frame_first, with_message}
 use Rattle.tcp_link.specs.Pieces.{piece, length_told, IsPieceFront}
 use Rattle.tcp_link.specs.Stages.{stage_after, is_up, is_begun, is_half, is_draining, is_read, is_written, is_over}
@@ -112,9 +112,9 @@ looked s = looked_at s (most_looks s.stage s.whom)
 
 -- ---- bytes that go out
 
--- it takes bytes as far as is known
+-- it takes bytes as far as is known, and no pause is made before it is written to
 abbrev pub is_side_ready : Side → Bool
-is_side_ready s = is_written s.stage && not s.is_blocked
+is_side_ready s = is_written s.stage && not s.is_blocked && not s.listed.rests
 
 -- a piece may be kept for it: it takes bytes, or is with a node and yet to stand. What is for a peer whose connection is being made is
 -- dropped
@@ -213,12 +213,31 @@ front_piece bytes = take (length_told bytes) (drop length_bytes bytes)
 abbrev pub behind_piece : List ℕ → List ℕ
 behind_piece bytes = drop (length_bytes + length_told bytes) bytes
 
--- the item that is taken, and what stays; it is noted that something was given, and that one reply more is owed
+-- a node's piece tells nothing new
+abbrev pub is_little : Whom → List ℕ → Bool
+is_little whom bytes = is_node whom && nat_le (length_told bytes) little_bytes
+
+-- the item that is taken, and what stays; it is noted that something was given, whether it told nothing new, and that one reply more is owed
 abbrev pub side_item_taken : Side → Option LinkItem
 side_item_taken s = if is_whole s then link_item_of s.whom (front_piece s.input) else None
 
 abbrev pub side_taken : Side → Side
-side_taken s = if is_whole s then record s { input = behind_piece s.input; has_given = true; owed = capped_64 (s.owed + 1) } else s
+side_taken s =
+    if is_whole s then record s { input = behind_piece s.input; has_given = true; gave_little = is_little s.whom s.input; owed = capped_64 (s.owed + 1) }
+    else s
+
+-- ---- a pause between a node's piece that tells nothing new and what it is sent next
+
+-- a pause begins: the last piece that was taken told nothing new, and none was begun
+abbrev pub is_rest_due : Side → Bool
+is_rest_due s = s.gave_little && not s.listed.rests
+
+abbrev pub resting : Side → Side
+resting s = if is_rest_due s then record s { gave_little = false; listed = record s.listed { rests = true } } else s
+
+-- it is over: what was kept meanwhile goes out
+abbrev pub rested : Side → Side
+rested s = record s { listed = record s.listed { rests = false } }
 
 -- ---- events
 

@@ -71,6 +71,11 @@ abbrev pub look_again : Clock → ℕ → Bool → List Waiting
 look_again c token false = []
 look_again c token true = (record { due_microseconds = look_due_microseconds c; retry = retries.Look token }) ∷ []
 
+-- a pause is made before the node of this token is written to
+abbrev pub rest_again : Clock → ℕ → Bool → List Waiting
+rest_again c token false = []
+rest_again c token true = (record { due_microseconds = retry_due_microseconds c; retry = retries.Rest token }) ∷ []
+
 -- a dial that comes again
 abbrev pub redial : Clock → Option Dial → List Waiting
 redial c None = []

@@ -181,6 +181,7 @@ impl Sockets {
                 Some(Retry::Door(number)) => self.accept_at(alloc, registry, number)?,
                 Some(Retry::Drain(token)) => self.drain_on(token)?,
                 Some(Retry::Look(token)) => self.look(token)?,
+                Some(Retry::Rest(token)) => self.write_rested(token)?,
                 None => break,
             }
         }

@@ -21,6 +21,7 @@ impl Sockets {
             return Ok(None);
         };
         let item = conn.side.give(alloc, &mut self.agenda, token)?;
+        conn.side.rest(&mut self.retries, token)?;
         if conn.side.take_unread() {
             self.readers.add(&mut conn.side, token)?;
         }

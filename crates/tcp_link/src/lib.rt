@@ -4,6 +4,8 @@
 //! pieces: a length of two bytes, the greater first, and so many bytes. A piece is a frame, of at most 16,384 bytes (`longest_frame`). A client
 //! connects to a node's address for clients, where both sides write pieces of at most 65,535 bytes from the beginning.
 //!
+//! A node that gave a client a piece of at most 6 bytes told nothing new, and is sent the client's next message after a pause.
+//!
 //! A peer that was sent something and of which then nothing comes for a minute is taken for gone. The time that passes is what a clock
 //! shows that is read once a turn, or else it is counted by what the link does.
 //!
@@ -35,6 +37,7 @@ mod output;
 mod pieces;
 mod readers;
 mod reading;
+mod resting;
 mod retries;
 mod running;
 mod sending;

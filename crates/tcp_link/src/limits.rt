@@ -1,6 +1,6 @@
 //! The limits of a link, each defined once in `specs/Limits.antt`. The longest frame is that of `ritas_base`.
 ghost use Rattle.std.specs.Prelude.{◌≡◌};
-ghost use Rattle.tcp_link.specs.Limits.{most_replicas, most_clients, most_at_once, most_strangers, spares_of_replica, spares_of_strangers, most_conns, most_serials, length_bytes, longest_piece, many_came, longest_read, many_kept, most_unwritten_bytes, most_unwritten_bytes_of_client, replicas_a_turn, clients_a_turn, clients_read_a_turn, messages_a_turn, most_events, most_writes, pause_microseconds, look_microseconds, first_wait_microseconds, longest_wait_microseconds, short_wait_microseconds, looks_of_dial, looks_of_node, looks_of_stranger, looks_of_peer, looks_of_half_closed, most_idle_ticks, most_ticks};
+ghost use Rattle.tcp_link.specs.Limits.{most_replicas, most_clients, most_at_once, most_strangers, spares_of_replica, spares_of_strangers, most_conns, most_serials, length_bytes, longest_piece, little_bytes, many_came, longest_read, many_kept, most_unwritten_bytes, most_unwritten_bytes_of_client, replicas_a_turn, clients_a_turn, clients_read_a_turn, messages_a_turn, most_events, most_writes, pause_microseconds, look_microseconds, first_wait_microseconds, longest_wait_microseconds, short_wait_microseconds, looks_of_dial, looks_of_node, looks_of_stranger, looks_of_peer, looks_of_half_closed, most_idle_ticks, most_ticks};
 
 /// A session has at most so many replicas.
 pub(crate) const MOST_REPLICAS: usize = 31;
@@ -31,6 +31,9 @@ pub(crate) const LENGTH_BYTES: usize = 2;
 
 /// The most bytes of a piece, behind those of its length.
 pub(crate) const LONGEST_PIECE: usize = 65_535;
+
+/// A reply of a node with at most so many bytes tells nothing new: it is a piece of a log that has no rows.
+pub(crate) const LITTLE_BYTES: usize = 6;
 
 /// With so many bytes that came, there is a whole piece among them, and no more are read.
 pub(crate) const MANY_CAME: usize = LENGTH_BYTES + LONGEST_PIECE;
@@ -115,6 +118,7 @@ pub fn limits_are()
     ensures serials { MOST_SERIALS ≡ most_serials }
     ensures piece_length { LENGTH_BYTES ≡ length_bytes }
     ensures piece { LONGEST_PIECE ≡ longest_piece }
+    ensures little { LITTLE_BYTES ≡ little_bytes }
     ensures came { MANY_CAME ≡ many_came }
     ensures read { LONGEST_READ ≡ longest_read }
     ensures many { MANY_KEPT ≡ many_kept }

@@ -20,6 +20,8 @@ pub(crate) enum Retry {
     Drain(usize),
     /// To look at the connection of this token, as every five seconds.
     Look(usize),
+    /// To write to the node of this token, whose last piece told nothing new.
+    Rest(usize),
 }
 
 /// What is tried again, and when.

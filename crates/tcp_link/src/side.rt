@@ -11,7 +11,9 @@ ghost use Rattle.tcp_link.specs.Sides.{changed, ended, is_side_done, is_replied,
 
 use crate::dials::Dial;
 use crate::input::Input;
-use crate::limits::{LENGTH_BYTES, MANY_CAME, MANY_KEPT, MOST_IDLE_TICKS, MOST_TICKS};
+use crate::limits::{
+    LENGTH_BYTES, LITTLE_BYTES, MANY_CAME, MANY_KEPT, MOST_IDLE_TICKS, MOST_TICKS,
+};
 use crate::outcome::{Moved, Seen};
 use crate::output::Output;
 use crate::pieces::{Front, front_of};
@@ -34,6 +36,8 @@ pub(crate) struct Listed {
     drains: bool,
     /// Of those that are looked at every five seconds.
     pub(crate) looks: bool,
+    /// Of nodes that aren't written to before a pause is over.
+    pub(crate) rests: bool,
 }
 
 /// What a connection has to give.
@@ -60,6 +64,8 @@ pub(crate) struct Side {
     pub(crate) is_hung_up: bool,
     /// Something of it was given.
     pub(crate) has_given: bool,
+    /// It is a node, and its last piece told nothing new.
+    pub(crate) gave_little: bool,
     /// The socket takes no byte until an event says so.
     is_blocked: bool,
     /// The older connection of the same peer that is read to its end first.
@@ -101,6 +107,7 @@ impl Side {
             dial,
             is_hung_up: false,
             has_given: false,
+            gave_little: false,
             is_blocked: false,
             behind: None,
             newer: None,
@@ -168,11 +175,11 @@ impl Side {
         }
     }
 
-    /// Whether it takes bytes as far as is known.
+    /// Whether it takes bytes as far as is known, and no pause is made before it is written to.
     pub(crate) fn is_ready(&self) -> bool
         ensures { result ≡ is_side_ready self.now }
     {
-        self.stage.is_written() && !self.is_blocked
+        self.stage.is_written() && !self.is_blocked && !self.listed.rests
     }
 
     /// Whether a piece may be kept for it.
@@ -381,6 +388,7 @@ impl Side {
         };
         self.input.take(LENGTH_BYTES + bytes.as_slice().len());
         self.has_given = true;
+        self.gave_little = self.whom.is_node() && bytes.as_slice().len() <= LITTLE_BYTES;
         self.owed = self.owed.saturating_add(1);
         Ok(self.whom.item(bytes))
     }
