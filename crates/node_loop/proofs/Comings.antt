@@ -8,7 +8,7 @@ use Rattle.ritas_base.specs.Limits.{least_request, longest_input}
 use Rattle.keyed_channel.specs.KeyRow.{KeyRow}
 use Rattle.ritas_core.specs.Stands.{Meaning}
 use Rattle.outside.specs.declared.link.Sent.{Sent}
-use Rattle.client_port.specs.Messages.{Request, request_parts, request_in}
+use Rattle.client_port.specs.Messages.{Request, request_parts, request_in, query_in}
 use Rattle.command_log.specs.Rows.{position_of}
 use Rattle.replica.specs.Out.{OutFrame}
 use Rattle.replica.specs.declared.replica.Replica.{Replica}
@@ -22,7 +22,7 @@ use Rattle.node_loop.specs.declared.output.Reply.{Reply}
 use Rattle.node_loop.specs.declared.waiting.Asked.{Asked}
 use Rattle.node_loop.specs.declared.waiting.Waiters.{Waiters}
 use Rattle.node_loop.specs.Waiting.{Waiting, with_waiter}
-use Rattle.node_loop.specs.Calls.{Outcome, event_called, waiting_left_by, replies_by, asked_in, submitted, asked_so, asks, asks_so, silent, is_waited_for, if_here}
+use Rattle.node_loop.specs.Calls.{Outcome, event_called, waiting_left_by, replies_by, asked_in, submitted, asked_so, asks, asks_but, asks_so, queried, silent, is_waited_for, if_here}
 use Rattle.node_loop.specs.Peers.{Peers, keep_all}
 use Rattle.node_loop.specs.Resending.{Brought, nothing_more}
 use Rattle.node_loop.specs.Serving.{frames_made_by, sent_by}
@@ -208,14 +208,24 @@ asks_at w es at conn bytes ws true false none some = absurd (some refl)
 asks_at w es at conn bytes ws false short none some = absurd (some refl)
 
 pub asks_is : (w : Setting) (es : List Event) (at : ℕ) (conn : Option ℕ) (bytes : List ℕ) (ws : Waiting) → (request_in bytes ≡ None → ⊥)
-    → asks w es at conn bytes ws ≡ asked_so w es at conn bytes ws (position_of (rows_at w es at) (asked_in at bytes).client (asked_in at bytes).request)
+    → asks_so w es at conn bytes ws (request_in bytes)
+    ≡ asked_so w es at conn bytes ws (position_of (rows_at w es at) (asked_in at bytes).client (asked_in at bytes).request)
 unfolding request_in
 asks_is w es at conn bytes ws some =
     asks_at w es at conn bytes ws (nat_le least_request (length bytes)) (nat_le (length bytes) longest_input) (record { at = at; client = 0; request = 0 }) some
 
 pub asks_none : (w : Setting) (es : List Event) (at : ℕ) (conn : Option ℕ) (bytes : List ℕ) (ws : Waiting) → request_in bytes ≡ None
-    → asks w es at conn bytes ws ≡ submitted w es at conn bytes ws
+    → asks_so w es at conn bytes ws (request_in bytes) ≡ submitted w es at conn bytes ws
 asks_none w es at conn bytes ws none = ap (asks_so w es at conn bytes ws) none
+
+-- a message that is a query, and one that is none
+pub asks_query : (w : Setting) (es : List Event) (at : ℕ) (conn : Option ℕ) (bytes : List ℕ) (ws : Waiting) (position : ℕ) → query_in bytes ≡ Some position
+    → asks w es at conn bytes ws ≡ queried w es at conn position ws
+asks_query w es at conn bytes ws position is = ap (asks_but w es at conn bytes ws) is
+
+pub asks_other : (w : Setting) (es : List Event) (at : ℕ) (conn : Option ℕ) (bytes : List ℕ) (ws : Waiting) → query_in bytes ≡ None
+    → asks w es at conn bytes ws ≡ asks_so w es at conn bytes ws (request_in bytes)
+asks_other w es at conn bytes ws none = ap (asks_but w es at conn bytes ws) none
 
 pub cleared : (o : Output) → (o.event ≡ None) × (o.frames.items ≡ []) × (o.more ≡ mores.Nothing) × (o.replies.items ≡ []) × (o.kept ≡ false) → IsEmptyOutput o
 cleared o none = record { event = none.0; frames = none.1; more = none.2; replies = none.3; kept = none.4 }

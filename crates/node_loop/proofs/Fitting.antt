@@ -7,12 +7,12 @@ use Rattle.ritas_base.specs.declared.event.Event.TheVariants as events
 use Rattle.outside.specs.declared.link.LinkItem.{LinkItem}
 use Rattle.outside.specs.declared.link.LinkItem.TheVariants as items
 use Rattle.outside.specs.Links.{bytes_of}
-use Rattle.client_port.specs.Messages.{Request, request_in}
+use Rattle.client_port.specs.Messages.{Request, request_in, query_in}
 use Rattle.command_log.specs.Rows.{position_of}
 use Rattle.world_model.specs.World.{Setting, seen_of}
 use Rattle.world_model.specs.Agree.{rows_at}
 use Rattle.node_loop.specs.Waiting.{Waiting, with_waiter}
-use Rattle.node_loop.specs.Calls.{Outcome, event_called, asked_in, refusal_in, submitted, submitted_so, silent, is_waited_for, asked_so, asks_so, asks, if_here, item_does, first_does}
+use Rattle.node_loop.specs.Calls.{Outcome, event_called, asked_in, refusal_in, submitted, submitted_so, silent, is_waited_for, asked_so, asks_so, asks_but, asks, if_here, item_does, first_does}
 use Rattle.node_loop.specs.Serving.{so_far, onto, Want, Begins, Finishes, Turns, Halts, Reminds, Asks, here, has_enough_rows, busy, turn_or, remind_or, wants_of, first_or, Serving, Round, Began, Turned, Reminded, Took, behind_first, after_from, IsWanted, AreWantedFrom}
 use Rattle.node_loop.specs.Told.{after_groups}
 use Rattle.node_loop.specs.Served.{MayBegin}
@@ -74,6 +74,11 @@ asks_fits : (w : Setting) (es : List Event) (at : ℕ) (conn : Option ℕ) (byte
 asks_fits w es at conn bytes ws None fits = submitted_fits w es at conn bytes ws (refusal_in (seen_of w es (events.Input at bytes))) fits
 asks_fits w es at conn bytes ws (Some r) fits = asked_fits w es at conn bytes ws (position_of (rows_at w es at) r.client r.request) fits
 
+message_fits : (w : Setting) (es : List Event) (at : ℕ) (conn : Option ℕ) (bytes : List ℕ) (ws : Waiting) (q : Option ℕ)
+    → IsServed w (events.Input at bytes) → FitsOutcome w (asks_but w es at conn bytes ws q).event
+message_fits w es at conn bytes ws (Some position) fits = tt
+message_fits w es at conn bytes ws None fits = asks_fits w es at conn bytes ws (request_in bytes) fits
+
 here_fits : (w : Setting) (at : ℕ) (did : Outcome) (ws : Waiting) → (w.is_correct at ≡ true → FitsOutcome w did.event) → FitsOutcome w (if_here w at did ws).event
 here_fits w at did ws fits = here (w.is_correct at) refl
   where
@@ -90,7 +95,7 @@ item_fits : (w : Setting) (es : List Event) (item : LinkItem) (ws : Waiting) →
 item_fits w es (items.Frame to bytes) ws short =
     here_fits w to (if is_note bytes then silent [] ws else event_called w es to (events.Frame to bytes) ws) ws (λ right. note_fits w es to bytes ws (is_note bytes) (right, short))
 item_fits w es (items.Client at conn bytes) ws short =
-    here_fits w at (asks w es at (Some conn) bytes ws) ws (λ right. asks_fits w es at (Some conn) bytes ws (request_in bytes) (right, short))
+    here_fits w at (asks w es at (Some conn) bytes ws) ws (λ right. message_fits w es at (Some conn) bytes ws (query_in bytes) (right, short))
 item_fits w es (items.Reply from bytes) ws short = tt
 item_fits w es (items.Up at peer) ws short = tt
 item_fits w es (items.Down at peer) ws short = tt
@@ -99,7 +104,7 @@ item_fits w es items.End ws short = tt
 
 first_fits : (w : Setting) (es : List Event) (item : LinkItem) (ws : Waiting) → MayBegin item → FitsOutcome w (first_does w es item ws).event
 first_fits w es (items.Client at conn bytes) ws short =
-    here_fits w at (asks w es at None bytes ws) ws (λ right. asks_fits w es at None bytes ws (request_in bytes) (right, short))
+    here_fits w at (asks w es at None bytes ws) ws (λ right. message_fits w es at None bytes ws (query_in bytes) (right, short))
 first_fits w es (items.Frame to bytes) ws none = absurd none
 first_fits w es (items.Reply from bytes) ws none = absurd none
 first_fits w es (items.Up at peer) ws none = absurd none

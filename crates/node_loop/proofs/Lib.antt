@@ -4,6 +4,7 @@ pub mod OneRun
 pub mod FramesSent
 pub mod Logs
 pub mod TrueReplies
+pub mod PieceReading
 pub mod Stepping
 pub mod Turning
 pub mod Rounding

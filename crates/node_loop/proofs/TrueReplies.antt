@@ -1,4 +1,4 @@
--- The replies that give a position are true.
+-- The replies that give a position or a piece are true.
 use Rattle.std.proofs.Common.{◌≡◌, ℕ, ◌&&◌, Bool, true, false, List, [], ◌∷◌, ◌++◌, length, map, reverse, Option, Some, None, nat_lt, refl, sym, ◌∙◌, ap, ap₂, subst, append_assoc, if◌then◌else◌}
 use Rattle.std.specs.List.{AllByRecursion}
 use Rattle.std.proofs.lemmas.List.{append-nil, reverse-append}
@@ -9,8 +9,9 @@ use Rattle.outside.specs.declared.link.LinkItem.{LinkItem}
 use Rattle.outside.specs.declared.link.LinkItem.TheVariants as items
 use Rattle.outside.specs.declared.link.Sent.{Sent}
 use Rattle.outside.specs.Links.{LinkAct, Starts, Gives, GivesNow, Sends, Replies, replies_in}
-use Rattle.client_port.specs.Messages.{Request, request_in, position_reply, refusal_reply}
+use Rattle.client_port.specs.Messages.{Request, request_in, query_in, position_reply, refusal_reply}
 use Rattle.command_log.specs.Rows.{Row, position_of}
+use Rattle.command_log.specs.Pieces.{piece_bytes, piece_of_log}
 use Rattle.layer_api.specs.Service.{IsPart}
 use Rattle.world_model.specs.World.{Setting, seen_of}
 use Rattle.world_model.specs.Agree.{rows_at}
@@ -23,7 +24,7 @@ use Rattle.node_loop.specs.Deeds.{Deed, Came, Made, Resent, Acked, Wished, Repli
 use Rattle.node_loop.specs.Resending.{Brought}
 use Rattle.node_loop.proofs.FramesSent.{IsBesides, item_besides}
 use Rattle.node_loop.specs.Waiting.{Waiting, with_waiter}
-use Rattle.node_loop.specs.Calls.{Outcome, reply, reply_each, asked_by, waiting_left_by, replies_by, event_called, asked_in, refusal_in, submitted, submitted_so, silent, is_waited_for, asked_so, asks_so, asks, if_here, item_does, first_does}
+use Rattle.node_loop.specs.Calls.{Outcome, reply, reply_each, asked_by, waiting_left_by, replies_by, event_called, asked_in, refusal_in, submitted, submitted_so, silent, is_waited_for, asked_so, asks_so, asks_but, asks, if_here, item_does, first_does}
 use Rattle.node_loop.specs.Serving.{Serving, so_far, as_sent, frames_made_by, sent_by, sent_of, onto, with_outcome, Round, Began, Turned, Reminded, Took, began, took, at_call, outcome, brought, round_does, after_from}
 use Rattle.node_loop.specs.Told.{after_groups, given_for, given_in, news_from, told_from}
 use Rattle.node_loop.specs.Laws.{IsTrueReply}
@@ -116,7 +117,7 @@ reply_true : (w : Setting) (es : List Event) (at client request position : ℕ) 
     → (conn : Option ℕ) → AreTrue w es (reply at (position_reply client request position) conn)
 reply_true w es at client request position is None = tt
 reply_true w es at client request position is (Some conn) =
-    ((λ form. record { client = client; request = request; position = position; bytes = refl; stands = is }), tt)
+    (record { position = λ form. record { client = client; request = request; position = position; bytes = refl; stands = is }; piece = λ form. absurd (cc) }, tt)
 
 each_true : (w : Setting) (es : List Event) (at client request position : ℕ) → position_of (rows_at w es at) client request ≡ Some position
     → (conns : List (Option ℕ)) → AreTrue w es (reply_each at (position_reply client request position) conns)
@@ -127,7 +128,7 @@ each_true w es at client request position is (conn ∷ conns) =
 
 refusal_true : (w : Setting) (es : List Event) (at client request code : ℕ) (conn : Option ℕ) → AreTrue w es (reply at (refusal_reply client request code) conn)
 refusal_true w es at client request code None = tt
-refusal_true w es at client request code (Some conn) = ((λ form. absurd (cc)), tt)
+refusal_true w es at client request code (Some conn) = (record { position = λ form. absurd (cc); piece = λ form. absurd (cc) }, tt)
 
 -- the row in front of others stands at the position of their number
 row_stands : (row : Row) (rows : List Row) → position_of (row ∷ rows) row.client row.request ≡ Some (length rows)
@@ -187,6 +188,17 @@ asks_true w es at conn bytes ws (Some r) is =
     asked_true w es at conn bytes ws (position_of (rows_at w es at) r.client r.request)
     (ap (λ (a : Asked). position_of (rows_at w es at) a.client a.request) (request_asked at bytes r is))
 
+-- a piece of the log as it is
+piece_true : (w : Setting) (es : List Event) (at position : ℕ) (conn : Option ℕ) → AreTrue w es (reply at (piece_bytes (piece_of_log (rows_at w es at) position)) conn)
+piece_true w es at position None = tt
+piece_true w es at position (Some conn) =
+    (record { position = λ form. absurd (cc); piece = λ form. record { moment = es; earlier = ([], refl); position = position; bytes = refl } }, tt)
+
+message_true : (w : Setting) (es : List Event) (at : ℕ) (conn : Option ℕ) (bytes : List ℕ) (ws : Waiting) (q : Option ℕ)
+    → IsTrueOutcome w es (asks_but w es at conn bytes ws q)
+message_true w es at conn bytes ws (Some position) = piece_true w es at position conn
+message_true w es at conn bytes ws None = asks_true w es at conn bytes ws (request_in bytes) refl
+
 here_true : (w : Setting) (es : List Event) (at : ℕ) (did : Outcome) (ws : Waiting) → IsTrueOutcome w es did → IsTrueOutcome w es (if_here w at did ws)
 here_true w es at did ws holds = here (w.is_correct at)
   where
@@ -203,7 +215,7 @@ item_true : (w : Setting) (es : List Event) (item : LinkItem) (ws : Waiting) →
 item_true w es (items.Frame to bytes) ws =
     here_true w es to (if is_note bytes then silent [] ws else event_called w es to (events.Frame to bytes) ws) ws (note_true w es to bytes ws (is_note bytes))
 item_true w es (items.Client at conn bytes) ws =
-    here_true w es at (asks w es at (Some conn) bytes ws) ws (asks_true w es at (Some conn) bytes ws (request_in bytes) refl)
+    here_true w es at (asks w es at (Some conn) bytes ws) ws (message_true w es at (Some conn) bytes ws (query_in bytes))
 item_true w es (items.Reply from bytes) ws = tt
 item_true w es (items.Up at peer) ws = tt
 item_true w es (items.Down at peer) ws = tt
@@ -211,7 +223,7 @@ item_true w es (items.Left at conn) ws = tt
 item_true w es items.End ws = tt
 
 first_true : (w : Setting) (es : List Event) (item : LinkItem) (ws : Waiting) → IsTrueOutcome w es (first_does w es item ws)
-first_true w es (items.Client at conn bytes) ws = here_true w es at (asks w es at None bytes ws) ws (asks_true w es at None bytes ws (request_in bytes) refl)
+first_true w es (items.Client at conn bytes) ws = here_true w es at (asks w es at None bytes ws) ws (message_true w es at None bytes ws (query_in bytes))
 first_true w es (items.Frame to bytes) ws = tt
 first_true w es (items.Reply from bytes) ws = tt
 first_true w es (items.Up at peer) ws = tt
@@ -223,16 +235,26 @@ first_true w es items.End ws = tt
 
 module _ (w : Setting) (grow : (more es : List Event) (i : ℕ) → IsPart (rows_at w es i) (rows_at w (more ++ es) i)) where
   stays_true : (e : Event) (es : List Event) (x : Sent) → IsTrueReply w es x → IsTrueReply w (e ∷ es) x
-  stays_true e es x holds form =
-      let was = holds form in
-      record {
-        client = was.client;
-        request = was.request;
-        position = was.position;
-        bytes = was.bytes;
-        stands = position_in_part (rows_at w es x.at) (rows_at w (e ∷ es) x.at) (grow (e ∷ []) es x.at) (rows_are_once w (e ∷ es) x.at)
-            was.client was.request was.position was.stands;
-      }
+  stays_true e es x holds = record {
+    position = λ form.
+        let was = holds.position form in
+        record {
+          client = was.client;
+          request = was.request;
+          position = was.position;
+          bytes = was.bytes;
+          stands = position_in_part (rows_at w es x.at) (rows_at w (e ∷ es) x.at) (grow (e ∷ []) es x.at) (rows_are_once w (e ∷ es) x.at)
+              was.client was.request was.position was.stands;
+        };
+    piece = λ form.
+        let was = holds.piece form in
+        record {
+          moment = was.moment;
+          earlier = (e ∷ was.earlier.0, ap (λ l. e ∷ l) was.earlier.1);
+          position = was.position;
+          bytes = was.bytes;
+        };
+  }
 
   all_stay : (o : Option Event) (past : List Event) (s : Serving) (xs : List Sent) → AreTrue w (so_far past s) xs → AreTrue w (onto o s.events ++ past) xs
   all_stay None past s xs all = all

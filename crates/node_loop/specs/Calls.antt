@@ -8,8 +8,9 @@ use Rattle.outside.specs.declared.link.LinkItem.{LinkItem}
 use Rattle.outside.specs.declared.link.LinkItem.TheVariants as items
 use Rattle.outside.specs.declared.link.Sent.{Sent}
 use Rattle.keyed_channel.specs.Notes.{is_note}
-use Rattle.client_port.specs.Messages.{Request, four_bytes_at, request_in, position_reply, refusal_reply}
+use Rattle.client_port.specs.Messages.{Request, four_bytes_at, request_in, query_in, position_reply, refusal_reply}
 use Rattle.command_log.specs.Rows.{Row, position_of}
+use Rattle.command_log.specs.Pieces.{piece_bytes, piece_of_log}
 use Rattle.ritas_core.specs.declared.fault.CoreFault.{CoreFault}
 use Rattle.ritas_core.specs.declared.fault.CoreFault.TheVariants as faults
 use Rattle.replica.specs.declared.refusal.Refusal.TheVariants as refusals
@@ -127,9 +128,17 @@ abbrev pub asks_so : Setting → List Event → ℕ → Option ℕ → List ℕ 
 asks_so w es at conn bytes ws None = submitted w es at conn bytes ws
 asks_so w es at conn bytes ws (Some r) = asked_so w es at conn bytes ws (position_of (rows_at w es at) r.client r.request)
 
--- a client's message to a replica, by a connection or as one of the first items
+-- a query is answered at once, with the piece of the log from its position on, as the replica has it now
+abbrev pub queried : Setting → List Event → ℕ → Option ℕ → ℕ → Waiting → Outcome
+queried w es at conn position ws = silent (reply at (piece_bytes (piece_of_log (rows_at w es at) position)) conn) ws
+
+abbrev pub asks_but : Setting → List Event → ℕ → Option ℕ → List ℕ → Waiting → Option ℕ → Outcome
+asks_but w es at conn bytes ws (Some position) = queried w es at conn position ws
+asks_but w es at conn bytes ws None = asks_so w es at conn bytes ws (request_in bytes)
+
+-- a client's message to a replica, by a connection or as one of the first items: a query, or what is to be a request
 abbrev pub asks : Setting → List Event → ℕ → Option ℕ → List ℕ → Waiting → Outcome
-asks w es at conn bytes ws = asks_so w es at conn bytes ws (request_in bytes)
+asks w es at conn bytes ws = asks_but w es at conn bytes ws (query_in bytes)
 
 -- ---- an item
 

@@ -8,6 +8,7 @@ use Rattle.outside.specs.declared.link.Sent.{Sent}
 use Rattle.outside.specs.Links.{replies_in}
 use Rattle.client_port.specs.Messages.{form_in, position_reply}
 use Rattle.command_log.specs.Rows.{position_of}
+use Rattle.command_log.specs.Pieces.{piece_bytes, piece_of_log}
 use Rattle.layer_api.specs.Broadcast.{BroadcastRules}
 use Rattle.layer_api.specs.Service.{ServiceRules, IsPart}
 use Rattle.world_model.specs.World.{Setting, seen_of}
@@ -150,10 +151,19 @@ pub record NamesPosition (w : Setting) (es : List Event) (x : Sent) : Type 0 whe
   pub bytes : x.bytes ≡ position_reply client request position
   pub stands : position_of (rows_at w es x.at) client request ≡ Some position
 
-abbrev pub IsTrueReply : Setting → List Event → Sent → Type 0
-IsTrueReply w es x = form_in x.bytes ≡ 1 → NamesPosition w es x
+-- a reply is a piece of the log that its replica had after some of these events, the first ones
+pub record GivesPiece (w : Setting) (es : List Event) (x : Sent) : Type 0 where
+  pub moment : List Event
+  pub earlier : IsPart moment es
+  pub position : ℕ
+  pub bytes : x.bytes ≡ piece_bytes (piece_of_log (rows_at w moment x.at) position)
 
--- each reply of form 1 does, when it goes out and ever after
+-- a reply of form 1 names a position, and one of form 3 is a piece
+pub record IsTrueReply (w : Setting) (es : List Event) (x : Sent) : Type 0 where
+  pub position : form_in x.bytes ≡ 1 → NamesPosition w es x
+  pub piece : form_in x.bytes ≡ 3 → GivesPiece w es x
+
+-- so it is of each reply, when it goes out and ever after
 abbrev pub RepliesAreTrue : ServiceRules → BroadcastRules → Type 0
 RepliesAreTrue service other = (w : Setting) (past : List Event) (start : Serving) (groups : List (List Round)) → IsWorld service other w
     → AllByRecursion (IsTrueReply w (so_far past (after_groups w past start groups))) (replies_in (told_from w past start groups))

@@ -21,6 +21,7 @@ pub mod Servers
 pub mod Journals
 pub mod Recovering
 pub mod Laws
+pub mod PieceLaws
 pub mod EarnedRounds
 pub mod Keeping
 pub mod KeepingRows

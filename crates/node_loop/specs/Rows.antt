@@ -5,7 +5,8 @@ use Rattle.ritas_base.specs.declared.event.Event.{Event}
 use Rattle.ritas_base.specs.declared.event.Event.TheVariants as events
 use Rattle.client_port.specs.Messages.{position_reply, refusal_reply}
 use Rattle.world_model.specs.World.{Setting}
-use Rattle.node_loop.specs.Laws.{IsServed, IsTrueReply, NamesPosition}
+use Rattle.command_log.specs.Pieces.{Piece, piece_bytes}
+use Rattle.node_loop.specs.Laws.{IsServed, IsTrueReply, NamesPosition, GivesPiece}
 
 -- ---- events
 
@@ -39,8 +40,14 @@ too_long_input w at bytes long served = let short = served.1 in omega (arith, lo
 position_is_true : (w : Setting) (es : List Event) (at to client request position : ℕ)
     → IsTrueReply w es (record { at = at; to = to; bytes = position_reply client request position })
     → NamesPosition w es (record { at = at; to = to; bytes = position_reply client request position })
-position_is_true w es at to client request position true_of = true_of refl
+position_is_true w es at to client request position true_of = true_of.position refl
 
 refusal_is_free : (w : Setting) (es : List Event) (at to client request code : ℕ)
     → IsTrueReply w es (record { at = at; to = to; bytes = refusal_reply client request code })
-refusal_is_free w es at to client request code form = absurd cc
+refusal_is_free w es at to client request code = record { position = λ form. absurd cc; piece = λ form. absurd cc }
+
+-- a piece has to be one of the log
+piece_is_of_log : (w : Setting) (es : List Event) (at to : ℕ) (p : Piece)
+    → IsTrueReply w es (record { at = at; to = to; bytes = piece_bytes p })
+    → GivesPiece w es (record { at = at; to = to; bytes = piece_bytes p })
+piece_is_of_log w es at to p true_of = true_of.piece refl

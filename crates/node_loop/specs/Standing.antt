@@ -18,6 +18,8 @@ use Rattle.node_loop.specs.declared.output.More.{More}
 use Rattle.node_loop.specs.declared.output.More.TheVariants as mores
 use Rattle.node_loop.specs.declared.output.Output.{Output}
 use Rattle.node_loop.specs.declared.output.Reply.{Reply}
+use Rattle.node_loop.specs.declared.output.ReplyBytes.{ReplyBytes}
+use Rattle.node_loop.specs.declared.output.ReplyBytes.TheVariants as said
 use Rattle.node_loop.specs.declared.house.House.{House}
 use Rattle.node_loop.specs.declared.peers.Keeper.{Keeper}
 use Rattle.node_loop.specs.Waiting.{Waiting}
@@ -46,8 +48,12 @@ pub record HouseStands {S E C : Type 0} (m : Meaning S E C KeyRow) (w : Setting)
 abbrev pub frame_by : ℕ → OutFrame → LinkAct
 frame_by at f = Sends (record { at = at; to = f.to; bytes = f.bytes })
 
+abbrev pub bytes_said : ReplyBytes → List ℕ
+bytes_said (said.Short bytes) = bytes
+bytes_said (said.Piece bytes) = bytes
+
 abbrev pub reply_by : ℕ → Reply → Sent
-reply_by at r = record { at = at; to = r.conn; bytes = r.bytes }
+reply_by at r = record { at = at; to = r.conn; bytes = bytes_said r.bytes }
 
 -- nothing came yet
 pub record IsEmptyOutput (o : Output) : Type 0 where

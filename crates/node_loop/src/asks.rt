@@ -2,14 +2,16 @@
 ghost use Rattle.std.specs.Prelude.{◌≡◌, ◌≢◌, ◌++◌, map, None, OnOk, OnErr, MatchOption};
 ghost use Rattle.client_port.specs.Messages.{request_in};
 ghost use Rattle.node_loop.specs.Calls.{asked_in, reply};
-ghost use Rattle.node_loop.specs.Standing.{reply_by};
+ghost use Rattle.node_loop.specs.Standing.{bytes_said, reply_by};
 
 use crate::house::House;
-use crate::output::{More, Output, Reply};
+use crate::output::{More, Output, Reply, ReplyBytes};
 use crate::peers::mark_of;
 use crate::refusals::{is_deferred, is_kept, is_opened, refusal_in};
 use crate::waiting::Asked;
-use client_port::{REPLY_LEN, RequestFront, read_front, read_request, write_refusal, write_reply};
+use client_port::{
+    RequestFront, read_front, read_query, read_request, write_piece, write_refusal, write_reply,
+};
 use keyed_channel::{
     FrameHeader, Note, frame_header, is_note, noted_from_peer, opened_from_peer, opened_parts,
 };
@@ -61,9 +63,9 @@ struct Message {
 }
 
 // Replies so to a connection, if there is one.
-fn reply(output: &mut Output, conn: Option<u32>, bytes: [u8; REPLY_LEN]) -> Result<(), Mem>
+fn reply(output: &mut Output, conn: Option<u32>, bytes: ReplyBytes) -> Result<(), Mem>
     ensures replies { (at : _) → OnOk result (map (reply_by at) output.new.replies.items
-        ≡ map (reply_by at) output.old.replies.items ++ reply at bytes conn) }
+        ≡ map (reply_by at) output.old.replies.items ++ reply at (bytes_said bytes) conn) }
     ensures memory { OnErr result (conn ≢ None) }
     ensures same { (output.new.at ≡ output.old.at) × (output.new.event ≡ output.old.event) × (output.new.frames ≡ output.old.frames)
         × (output.new.more ≡ output.old.more) × (output.new.kept ≡ output.old.kept) }
@@ -90,7 +92,8 @@ impl<S: Service, E: Broadcast, C: Coin + Drop> House<S, E, C> {
     ghost use Rattle.keyed_channel.specs.Notes.{ack_note, noted};
     ghost use Rattle.outside.specs.declared.link.LinkItem.TheVariants as items;
     ghost use Rattle.node_loop.specs.declared.output.More.TheVariants as mores;
-    ghost use Rattle.node_loop.specs.Calls.{event_called, silent, submitted, asked_so, asks, if_here, item_does, first_does};
+    ghost use Rattle.client_port.specs.Messages.{request_in};
+    ghost use Rattle.node_loop.specs.Calls.{event_called, silent, submitted, asked_so, asks_so, queried, asks, if_here, item_does, first_does};
     ghost use Rattle.node_loop.specs.Peers.{Peers, keep_all, with_mark};
     ghost use Rattle.node_loop.specs.Resending.{nothing_more, mark_at, is_deferred, noted_so, opened_so, item_brings};
     ghost use Rattle.node_loop.specs.Serving.{frames_made_by};
@@ -125,7 +128,7 @@ impl<S: Service, E: Broadcast, C: Coin + Drop> House<S, E, C> {
             Some(code) => {
                 self.enter(alloc, place, count, output)?;
                 let refusal = write_refusal(asked.client, asked.request, code);
-                reply(output, conn, refusal)
+                reply(output, conn, ReplyBytes::Short { bytes: refusal })
             }
             None => {
                 self.waiting.push(alloc, asked, conn)?;
@@ -166,12 +169,62 @@ impl<S: Service, E: Broadcast, C: Coin + Drop> House<S, E, C> {
         let asked = message.asked;
         if let Some(position) = self.position_at(place, asked) {
             let bytes = write_reply(asked.client, asked.request, position);
-            return reply(output, message.conn, bytes);
+            return reply(output, message.conn, ReplyBytes::Short { bytes });
         }
         if self.waiting.has(asked) {
             return self.waiting.push(alloc, asked, message.conn);
         }
         self.submit(alloc, place, message, output)
+    }
+
+    // A query comes to the replica at a place: a connection is given the piece of its log from a position on. The one error is want of
+    // memory.
+    fn query(
+        &self,
+        alloc: Global,
+        place: usize,
+        conn: Option<u32>,
+        position: u32,
+        output: &mut Output,
+    ) -> Result<(), Mem>
+        ensures comes { let m = meaning_of S.Service E.Broadcast C.Coin in
+            (w : Setting) (es : List Event) (numbers : List ℕ) (ws : Waiting) (p : Peers) → HouseStands m w es numbers self.now ws p
+            → slice_get numbers place ≡ Some output.old.at → IsEmptyOutput output.old
+            → OnOk result (ComesOut m w es numbers self.now output.new (queried w es output.old.at conn position ws) (nothing_more p)) }
+        ensures none { OnOk result (output.new.event ≡ output.old.event) }
+    {
+        let Some(replica) = self.replicas.get(place) else {
+            // There is no such place.
+            return Ok(());
+        };
+        let piece = write_piece(alloc, replica.log(), position)?;
+        reply(output, conn, ReplyBytes::Piece { bytes: piece })
+    }
+
+    // A message that is no query comes to the replica at a place. The one error is want of memory.
+    fn request(
+        &mut self,
+        alloc: Global,
+        place: usize,
+        conn: Option<u32>,
+        bytes: Bytes,
+        output: &mut Output,
+    ) -> Result<(), Mem>
+        ensures comes { let m = meaning_of S.Service E.Broadcast C.Coin in
+            (w : Setting) (es : List Event) (numbers : List ℕ) (ws : Waiting) (p : Peers) → HouseStands m w es numbers self.old ws p
+            → slice_get numbers place ≡ Some output.old.at → IsEmptyOutput output.old
+            → let did = asks_so w es output.old.at conn bytes ws (request_in bytes) in
+            OnOk result (ComesOut m w es numbers self.new output.new did (nothing_more (keep_all (frames_made_by w es did.event) p))) }
+        ensures sized { length bytes < 2 ^ 16 → IfSome output.old.event IsSized → OnOk result (IfSome output.new.event IsSized) }
+    {
+        let at = output.at;
+        match request_of(at, bytes.as_slice()) {
+            Some(asked) => self.ask_for(alloc, place, Message { asked, conn, bytes }, output),
+            None => {
+                let asked = asked_in(at, bytes.as_slice());
+                self.submit(alloc, place, Message { asked, conn, bytes }, output)
+            }
+        }
     }
 
     // A client's message comes to a replica, if that is here. The one error is want of memory.
@@ -193,12 +246,9 @@ impl<S: Service, E: Broadcast, C: Coin + Drop> House<S, E, C> {
         let Some(place) = self.place_of(at) else {
             return Ok(());
         };
-        match request_of(at, bytes.as_slice()) {
-            Some(asked) => self.ask_for(alloc, place, Message { asked, conn, bytes }, output),
-            None => {
-                let asked = asked_in(at, bytes.as_slice());
-                self.submit(alloc, place, Message { asked, conn, bytes }, output)
-            }
+        match read_query(bytes.as_slice()) {
+            Some(position) => self.query(alloc, place, conn, position, output),
+            None => self.request(alloc, place, conn, bytes, output),
         }
     }
 

@@ -223,7 +223,7 @@ fn reply_all<R: Net + Wait, L: Link>(
     ensures replies { LinkTook L.Link (each_act Replies (map (reply_by at) replies.now)) link.old link.new result }
 {
     for given in replies {
-        link.reply(rt, alloc, at, given.conn, &given.bytes)?;
+        link.reply(rt, alloc, at, given.conn, given.bytes.as_slice())?;
     }
     Ok(())
 }

@@ -6,7 +6,7 @@ ghost use Rattle.node_loop.specs.Calls.{asked_by, waiting_left_by, replies_by, r
 ghost use Rattle.node_loop.specs.Standing.{reply_by};
 ghost use Rattle.node_loop.specs.WaitersStanding.{IsWaiting};
 
-use crate::output::Reply;
+use crate::output::{Reply, ReplyBytes};
 use crate::waiting::{Asked, Waiters};
 use client_port::{REPLY_LEN, write_reply};
 use command_log::{Log, LogRow};
@@ -25,6 +25,7 @@ fn reply_each(
 {
     for conn in conns {
         if let Some(conn) = *conn {
+            let bytes = ReplyBytes::Short { bytes };
             replies.push(Reply { conn, bytes })?;
         }
     }

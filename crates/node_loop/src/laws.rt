@@ -2,6 +2,7 @@
 ghost use Rattle.node_loop.specs.Laws.{OneRun, GroupsAreRounds, RoundsGrow, GroupsGrow, ActsAreDeeds, DeedsAreBehind, FramesAreMade, ResendsAreOpen};
 ghost use Rattle.node_loop.specs.Laws.{RecalledAreSent, RecalledAreOpen, AcksAreEarned, EventsFit, RepliesAreTrue, KeptMakes};
 ghost use Rattle.node_loop.specs.EarnedRounds.{AcksAreOfRounds};
+ghost use Rattle.node_loop.specs.PieceLaws.{PiecesAreOfLogs};
 ghost use Rattle.node_loop.specs.Keeping.{KeptStands, KeptIsShort};
 ghost use Rattle.node_loop.specs.LivesPrint.{LivesPrint, AllLivesPrint};
 ghost use Rattle.node_loop.specs.Meanings.{meaning_of};
@@ -75,13 +76,26 @@ pub fn events_fit()
     ensures fit { EventsFit }
 {}
 
-/// A reply that gives a position gives the one that the request has in the log of the replica which replies, and which it keeps there.
+/// A reply that gives a position gives the one that the request has in the log of the replica which replies, and which it keeps there. A
+/// piece is of that log as it was at some moment, byte for byte.
 ///
 /// It does nothing: its contract is the law.
 pub fn replies_are_true<S: Service, E: Broadcast>()
     ensures replies { RepliesAreTrue S.rules E.rules }
 {
     world_model::logs_grow::<S, E>();
+}
+
+/// A piece that a correct replica replied is read by an observer without a fault, as a piece of the log which that replica has. So it is
+/// what `observer::log_is_true` asks of the pieces of correct replicas.
+///
+/// It does nothing: its contract is the law.
+pub fn pieces_are_of_logs<S: Service, E: Broadcast>()
+    ensures pieces { PiecesAreOfLogs S.rules E.rules }
+{
+    world_model::logs_grow::<S, E>();
+    world_model::rows_fit::<S, E>();
+    observer::pieces_are_read();
 }
 
 /// The replicas stand after the events that a journal keeps, which are the turns and what was taken or is held, where they stand after all

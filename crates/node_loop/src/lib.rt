@@ -32,7 +32,7 @@ pub use archive::ArchiveFault;
 pub use end::ServeEnd;
 pub use laws::{
     acks_are_earned, acts_are_deeds, events_fit, frames_are_made, kept_is_short, kept_makes,
-    kept_stands, lives_print, one_run, only_grows, recalled_are_sent, replies_are_true,
-    resends_are_open,
+    kept_stands, lives_print, one_run, only_grows, pieces_are_of_logs, recalled_are_sent,
+    replies_are_true, resends_are_open,
 };
 pub use rounds::serve;

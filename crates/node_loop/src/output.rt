@@ -1,20 +1,42 @@
 //! What comes of an item or a turn.
 ghost use Rattle.std.specs.Prelude.{◌≡◌, [], None, false};
 ghost use Rattle.node_loop.specs.declared.output.More.TheVariants as mores;
+ghost use Rattle.node_loop.specs.Standing.{bytes_said};
 
 use client_port::REPLY_LEN;
 use keyed_channel::NOTE_LEN;
 use replica::OutFrame;
-use ritas_base::Event;
+use ritas_base::{Bytes, Event};
 use std::alloc::Global;
 
+/// The bytes of a reply. Those of a short one take no memory.
+#[derive(Drop)]
+pub(crate) enum ReplyBytes {
+    /// A position, or a refusal.
+    Short { bytes: [u8; REPLY_LEN] },
+    /// A piece of a log.
+    Piece { bytes: Bytes },
+}
+
+impl ReplyBytes {
+    /// The bytes as a slice.
+    pub(crate) fn as_slice(&self) -> &[u8]
+        ensures said { result.now ≡ bytes_said self.now }
+    {
+        match self {
+            ReplyBytes::Short { bytes } => bytes.as_slice(),
+            ReplyBytes::Piece { bytes } => bytes.as_slice(),
+        }
+    }
+}
+
 /// A reply to a connection.
-#[derive(Clone, Copy)]
+#[derive(Drop)]
 pub(crate) struct Reply {
     /// The connection's number.
     pub conn: u32,
     /// The bytes of the reply.
-    pub bytes: [u8; REPLY_LEN],
+    pub bytes: ReplyBytes,
 }
 
 /// What goes to a peer besides the frames of a call.

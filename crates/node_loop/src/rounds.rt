@@ -40,7 +40,8 @@ pub(crate) enum Next {
 /// 4. The least peer, of the least replica that has one, which is to be asked to send again, is asked: an AGAIN goes to it.
 /// 5. The link's next item is taken; it ends with `End` where that is the link's end.
 ///
-/// A frame for a replica that is here is a call of its `on_frame`; a client's message is answered or submitted (`specs/Calls.antt`).
+/// A frame for a replica that is here is a call of its `on_frame`; a client's query is given a piece of the log at once, and any other message
+/// of a client is answered or submitted (`specs/Calls.antt`).
 /// Each call is an event, which goes to the tape before the call's frames go to the link, and these go before its replies. What comes of
 /// several rounds is delivered as one group: all events of it go to the tape, by one call, and then, round after round, its frames and replies to the
 /// link. To a first round of any kind join turns, and the link's items that are there by then, for which it never waits: at most 256 rounds are a

@@ -26,7 +26,7 @@ use Rattle.world_model.proofs.Worlds.{IsAtCorrect, event_at}
 
 -- ---- what the replicas of a world rest on
 
-laid : (service : ServiceRules) (other : BroadcastRules) (w : Setting) → IsWorld service other w → ValueLaws other → WordLaws service
+pub laid : (service : ServiceRules) (other : BroadcastRules) (w : Setting) → IsWorld service other w → ValueLaws other → WordLaws service
     → OpenedFromPeer → Codec w → CoreLaws → IsLaid w
 laid service other w is values words opened_from_peer codec core = record {
   founded = λ i below. record {

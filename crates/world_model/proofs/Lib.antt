@@ -55,4 +55,5 @@ pub mod Carrying
 pub mod Unforged
 pub mod Short
 pub mod Growing
+pub mod RowsFitting
 pub mod TakenOut

@@ -37,12 +37,12 @@ in_more x (y ∷ more) xs here = inr (in_more x more xs here)
 in_part : (x : Id) (xs ys : List Id) → IsPart xs ys → IsIn x xs → IsIn x ys
 in_part x xs ys part here = subst (λ (zs : List Id). IsIn x zs) part.1 (in_more x part.0 xs here)
 
-heard_in : (words : List Word) (x : Id) (xs : List Id) → AreHeard words xs → IsIn x xs → is_heard words (command_slot x.origin x.num) ≡ true
+pub heard_in : (words : List Word) (x : Id) (xs : List Id) → AreHeard words xs → IsIn x xs → is_heard words (command_slot x.origin x.num) ≡ true
 heard_in words x [] all here = absurd here
 heard_in words x (y ∷ ys) all (inl e) = subst (λ (z : Id). is_heard words (command_slot z.origin z.num) ≡ true) e all.0
 heard_in words x (y ∷ ys) all (inr there) = heard_in words x ys all.1 there
 
-some_is : (o : Option (List ℕ)) → is_some o ≡ true → (v : List ℕ) × (o ≡ Some v)
+pub some_is : (o : Option (List ℕ)) → is_some o ≡ true → (v : List ℕ) × (o ≡ Some v)
 some_is None is = absurd (cc)
 some_is (Some v) is = (v, refl)
 

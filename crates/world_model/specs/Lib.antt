@@ -9,6 +9,7 @@ pub mod Agree
 pub mod Apart
 pub mod Stopped
 pub mod EveryWorld
+pub mod RowsFit
 pub mod Needs
 pub mod Stands
 pub mod BetweenLaws

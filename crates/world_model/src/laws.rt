@@ -10,6 +10,7 @@ ghost use Rattle.world_model.specs.Agree.{AgreeLaw};
 ghost use Rattle.world_model.specs.Apart.{NoTwoValues, NoTwoRows, NoTwoIdentifierLogs, NoTwoOutcomes, NoTwoDecisions, NoTwoVectors};
 ghost use Rattle.world_model.specs.Stopped.{LostIsTaken, EqualRows, OnePrefix};
 ghost use Rattle.world_model.specs.EveryWorld.{AgreementLaw, LogsGrow};
+ghost use Rattle.world_model.specs.RowsFit.{RowsFit};
 
 use crate::audit::Audit;
 use layer_api::{Broadcast, Service};
@@ -136,6 +137,19 @@ pub fn agreement<S: Service, E: Broadcast>()
 /// It does nothing: its contract is the law.
 pub fn logs_grow<S: Service, E: Broadcast>()
     ensures { LogsGrow S.rules E.rules }
+{
+    keyed_channel::opened_from_peer();
+    frame_codec::spelled();
+    core_laws();
+}
+
+/// In every world with this service and this broadcast beside the reliable one each row of a correct replica's log is of a command of the
+/// session, whatever the audit says: its origin is one of the n replicas, its number is below 1,000,000, and its payload has at most 4,088
+/// bytes. There are at most 31,000,000 rows.
+///
+/// It does nothing: its contract is the law.
+pub fn rows_fit<S: Service, E: Broadcast>()
+    ensures { RowsFit S.rules E.rules }
 {
     keyed_channel::opened_from_peer();
     frame_codec::spelled();

@@ -57,7 +57,7 @@ pub use audit::Audit;
 pub use counts::Counts;
 pub use faces::{faces_are_replicas, quiet};
 pub use laws::{
-    agreement, agreement_each, logs_grow, never_apart, one_value_each, prefix_holds,
+    agreement, agreement_each, logs_grow, never_apart, one_value_each, prefix_holds, rows_fit,
     stopped_between,
 };
 pub use order::Made;
