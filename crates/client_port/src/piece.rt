@@ -60,7 +60,8 @@ fn write_row(bytes: &mut Vec<u8>, row: &LogRow) -> Result<(), Mem>
     Ok(())
 }
 
-// Appends the rows from a position on, so many at most and of no more than so many bytes. It answers how many they are.
+// Appends the rows from a position on, so many at most and of no more than so many bytes. It answers how many they
+// are.
 fn write_rows(
     bytes: &mut Vec<u8>,
     log: &Log,

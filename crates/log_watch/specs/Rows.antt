@@ -1,5 +1,5 @@
--- Worked rows: four nodes, of which one may be faulty, and row 0 of the log: command 0 of replica 0, request 1 of client
--- 7, "hi".
+-- Worked rows: four nodes, of which one may be faulty, and row 0 of the log: command 0 of replica 0, request 1 of
+-- client 7, "hi".
 use Rattle.std.specs.Prelude.{◌≡◌, ℕ, Bool, true, false, List, [], ◌∷◌, codes, length, Some, None, refl}
 use Rattle.std.proofs.Common.{arith}
 use Rattle.ritas_base.specs.Numbers.{Numbers}
@@ -58,7 +58,9 @@ unfolding piece_fault form_fault front_left row_left four_bytes_at two_at backed
 two_are_wanted = refl
 
 asks_for_one : watching_acts four nodes (gives 2 105 ∷ gives 0 105 ∷ []) ≡
-    Sends (record { at = 0; to = 2; bytes = query 1 }) ∷ Gives (gives 2 105) ∷ watching_acts four nodes (gives 0 105 ∷ [])
+    Sends (record { at = 0; to = 2; bytes = query 1 })
+    ∷ Gives (gives 2 105)
+    ∷ watching_acts four nodes (gives 0 105 ∷ [])
 unfolding piece_fault form_fault front_left row_left four_bytes_at two_at backed entered_given
 asks_for_one = refl
 

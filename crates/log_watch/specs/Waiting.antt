@@ -16,8 +16,8 @@ abbrev pub IsWatchEndOf : LinkFault → WatchEnd → Type 0
 IsWatchEndOf faults.Failed end = end ≡ ends.LinkFault
 IsWatchEndOf faults.Mem end = end ≡ ends.Mem
 
--- since base, watching was begun, items were taken with which it goes on, what they ask for was asked, and no call failed
--- or was without memory; the observer stands for their pieces
+-- since base, watching was begun, items were taken with which it goes on, what they ask for was asked, and no call
+-- failed or was without memory; the observer stands for their pieces
 pub record AwaitsRows (p : Numbers) (nodes : List (List ℕ)) (until : ℕ) (tells : Bool) (base now : List LinkAct)
     (before after : FaultCounts) (observer : Watcher) : Type 0 where
   pub items : List LinkItem

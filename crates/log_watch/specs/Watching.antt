@@ -29,8 +29,8 @@ gifts_of p [] = []
 gifts_of p (items.Frame to bytes ∷ older) = gifts_of p older
 gifts_of p (items.Client at conn bytes ∷ older) = gifts_of p older
 gifts_of p (items.Reply from bytes ∷ older) =
-    taken_if (piece_fault p (observed p (gifts_of p older)) from bytes) (record { from = from; piece = piece_in bytes })
-    (gifts_of p older)
+    taken_if (piece_fault p (observed p (gifts_of p older)) from bytes)
+    (record { from = from; piece = piece_in bytes }) (gifts_of p older)
 gifts_of p (items.Up at peer ∷ older) = gifts_of p older
 gifts_of p (items.Down at peer ∷ older) = gifts_of p older
 gifts_of p (items.Left at conn ∷ older) = gifts_of p older
@@ -68,7 +68,8 @@ query_to (Some node) position = message_sent_to (query_bytes position) node ∷ 
 abbrev pub watching_acts : Numbers → List (List ℕ) → List LinkItem → List LinkAct
 watching_acts p nodes [] = begun p nodes
 watching_acts p nodes (item ∷ older) =
-    query_to (asked_next p older item) (length (log_after p (item ∷ older))) ++ Gives item ∷ watching_acts p nodes older
+    query_to (asked_next p older item) (length (log_after p (item ∷ older)))
+    ++ Gives item ∷ watching_acts p nodes older
 
 -- ---- how it ends
 
@@ -89,7 +90,8 @@ KeepsWatching p until (item ∷ older) = WatchesOn p until older item × KeepsWa
 -- the calls with these items, and with one more if there was one, were made up to a point
 abbrev pub StopsWatching : Numbers → List (List ℕ) → List LinkItem → List LinkAct → List LinkAct → Type 0
 StopsWatching p nodes older old new =
-    TookBack old new (watching_acts p nodes older) ⊎ ((item : LinkItem) × TookBack old new (watching_acts p nodes (item ∷ older)))
+    TookBack old new (watching_acts p nodes older)
+    ⊎ ((item : LinkItem) × TookBack old new (watching_acts p nodes (item ∷ older)))
 
 -- with one item more the log is long enough, and no query follows it
 pub record LongEnough (p : Numbers) (nodes : List (List ℕ)) (until : ℕ) (older : List LinkItem) (rows : List Row)
@@ -116,16 +118,16 @@ WatchingEndsSo p nodes until older rows tells old new before after ends.LinkFaul
 WatchingEndsSo p nodes until older rows tells old new before after ends.Mem =
     tells ≡ true → StopsWatching p nodes older old new
 
--- the link's counts: one of its calls failed where that ended it, at most one was without memory where that did, and else
--- none
+-- the link's counts: one of its calls failed where that ended it, at most one was without memory where that did, and
+-- else none
 abbrev pub HasWatchCause : FaultCounts → FaultCounts → WatchEnd → Type 0
 HasWatchCause before after ends.Rows = after ≡ before
 HasWatchCause before after ends.End = after ≡ before
 HasWatchCause before after ends.LinkFault = after ≡ failed_once before
 HasWatchCause before after ends.Mem = (after ≡ before) ⊎ (after ≡ short_once before)
 
--- There are items, of which none was the link's end and with none of which the log was long enough, after which it ended
--- so. The log is that after these items, or after these and one more.
+-- There are items, of which none was the link's end and with none of which the log was long enough, after which it
+-- ended so. The log is that after these items, or after these and one more.
 pub record Watches (p : Numbers) (nodes : List (List ℕ)) (until : ℕ) (rows : List Row) (tells : Bool)
     (old new : List LinkAct) (before after : FaultCounts) (end : WatchEnd) : Type 0 where
   pub items : List LinkItem

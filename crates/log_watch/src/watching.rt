@@ -65,7 +65,8 @@ fn take<R: Net + Wait, L: Link>(
 ) -> Result<(), WatchEnd>
     ensures waits { (p : Numbers) (nodes : List (List ℕ)) (base : List LinkAct) (before : FaultCounts)
         → AwaitsRows p nodes until L.tells base (L.told link.old) before (L.faults link.old) observer.old
-        → AwaitsRowsOrEnds p nodes until L.tells base (L.told link.new) before (L.faults link.new) observer.new result }
+        → AwaitsRowsOrEnds p nodes until L.tells base (L.told link.new) before (L.faults link.new) observer.new
+        result }
 {
     let item = link.next(rt, alloc)?;
     if item.is_end() {
@@ -112,15 +113,15 @@ fn plan_for(alloc: Global, nodes: &Texts) -> Result<LinkPlan, Mem>
 
 /// Puts a session's log together from the pieces that its nodes give, until it has as many rows as are wanted.
 ///
-/// The link is started once, for a client of these nodes. Each node from 0 to n - 1 is asked for position 0, in ascending
-/// order and with 0 as the replica that sends. Then the link's items are taken, and each reply goes to `Observer::piece`.
-/// The node that gave a piece which is taken is asked next, for the length of the log. A reply that is refused there
-/// changes nothing, and no query follows it; neither does any other item change anything.
+/// The link is started once, for a client of these nodes. Each node from 0 to n - 1 is asked for position 0, in
+/// ascending order and with 0 as the replica that sends. Then the link's items are taken, and each reply goes to
+/// `Observer::piece`. The node that gave a piece which is taken is asked next, for the length of the log. A reply
+/// that is refused there changes nothing, and no query follows it; neither does any other item change anything.
 ///
-/// It ends with `Rows` at the first piece with which the log has at least `until` rows, and no query follows that one; with
-/// `End` at the link's end, with `LinkFault` at the first call of the link that fails, and with `Mem` where there is not
-/// enough memory, also at the first call of the link that is without it. No call follows one that fails or is without
-/// memory. It waits nowhere but in the link's calls.
+/// It ends with `Rows` at the first piece with which the log has at least `until` rows, and no query follows that
+/// one; with `End` at the link's end, with `LinkFault` at the first call of the link that fails, and with `Mem` where
+/// there is not enough memory, also at the first call of the link that is without it. No call follows one that fails
+/// or is without memory. It waits nowhere but in the link's calls.
 pub fn watch<R: Net + Wait, L: Link>(
     rt: &R,
     alloc: Global,

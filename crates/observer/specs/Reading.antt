@@ -98,8 +98,8 @@ front_left bytes = first_failed (front_tests bytes)
 abbrev pub piece_left : ℕ → List ℕ → Option ℕ
 piece_left n bytes = option_or (front_left bytes) (rows_left n (row_count_in bytes) (drop piece_front bytes))
 
--- the offset of the first byte that is wrong, missing or too much; a piece has at most 16,384 bytes, and what is behind
--- them is too much
+-- the offset of the first byte that is wrong, missing or too much; a piece has at most 16,384 bytes, and what is
+-- behind them is too much
 abbrev pub offset_of : List ℕ → List ℕ → Option ℕ → Option ℕ
 offset_of bytes short (Some left) = Some (length short - left)
 offset_of bytes short None = if nat_lt longest_log_piece (length bytes) then Some longest_log_piece else None

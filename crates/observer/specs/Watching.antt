@@ -1,5 +1,5 @@
--- What an observer has of the pieces that it took: the log, and the rows that wait for it to come to their positions. A
--- list of pieces and a log have the newest first.
+-- What an observer has of the pieces that it took: the log, and the rows that wait for it to come to their positions.
+-- A list of pieces and a log have the newest first.
 use Rattle.std.specs.Prelude.{ℕ, zero, suc, ◌+◌, ◌-◌, ◌==◌, Bool, false, not, ◌&&◌, nat_le, nat_lt, List, [], ◌∷◌, map, length, count_by, slice_get, slice_index_or, Option, Some, None, if◌then◌else◌}
 use Rattle.std.specs.Option.{option_or}
 use Rattle.std.specs.List.{position}
