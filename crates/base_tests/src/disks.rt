@@ -15,15 +15,6 @@ fn written(rt: &impl Abort, alloc: Global) -> Result<MemDisk, Mem> {
     Ok(disk)
 }
 
-#[test]
-fn reads_a_disk(rt: HostRuntime) -> Result<(), Fail> {
-    let mut disk = written(&rt, rt.alloc())?;
-    let mut buf = [b'.'; 8];
-    assert_eq!(rt; disk.read(1, &mut buf), Ok(3));
-    assert_eq!(rt; buf.as_slice(), b"bxy.....".as_slice());
-    Ok(())
-}
-
 // Whether a stop leaves these bytes of a disk, by this pick.
 fn leaves(alloc: Global, disk: &MemDisk, pick: u32, left: &[u8]) -> Result<bool, Mem> {
     let mut stopped = disk.after_stop(alloc, pick)?;
@@ -47,19 +38,6 @@ fn stops_a_disk(rt: HostRuntime) -> Result<(), Fail> {
     ] {
         assert!(rt; leaves(rt.alloc(), &disk, pick, left)?, "by pick {pick}");
     }
-    Ok(())
-}
-
-// A call that fails has its number too, and after six calls each one fails.
-#[test]
-fn a_disk_fails(rt: HostRuntime) -> Result<(), Fail> {
-    let mut disk = written(&rt, rt.alloc())?;
-    let mut buf = [b'.'; 8];
-    assert_eq!(rt; disk.read(1, &mut buf), Ok(3));
-    for answer in [Ok(()), Err(Failed), Ok(())] {
-        assert_eq!(rt; disk.sync(), answer);
-    }
-    assert_eq!(rt; disk.read(0, &mut buf), Err(Failed));
     Ok(())
 }
 

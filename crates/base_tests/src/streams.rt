@@ -7,17 +7,6 @@ use std::io;
 use std::io::{ErrorKind, Read, Write};
 use std::test::*;
 
-// A source whose second call fails.
-#[test]
-fn a_source_fails_once(rt: HostRuntime) -> Result<(), Fail> {
-    let mut source = MemSource::new(rt.alloc(), b"abcde", &[1])?;
-    let mut buf = [b'.'; 3];
-    for answer in [Ok(3), Err(Failed), Ok(2), Ok(0)] {
-        assert_eq!(rt; source.read(&mut buf), answer);
-    }
-    Ok(())
-}
-
 // A text through each form in memory. A buffer that is emptied takes again.
 #[test]
 fn goes_through_memory(rt: HostRuntime) -> Result<(), Fail> {

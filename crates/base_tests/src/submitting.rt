@@ -1,10 +1,10 @@
-//! Tests of `request_submit`: replies that settle a position and those that don't, and a link that fails.
+//! Tests of `request_submit`: replies that settle a position, and a link that fails.
 
 ghost use Rattle.std.specs.Prelude.{◌<◌, ◌^◌, length, All, IfOk, OnOk};
 ghost use Rattle.outside.specs.Links.{bytes_of};
 ghost use Rattle.outside.specs.MemoryLink.{IsShort};
 
-use client_port::{write_refusal, write_reply};
+use client_port::write_reply;
 use outside::{LinkItem, LinkPlan, MemLink};
 use request_submit::{SubmitEnd, position_is_one_of_logs, submit};
 use ritas_base::{Bytes, Mem, Params, Texts};
@@ -46,25 +46,6 @@ fn two(alloc: Global) -> Result<Vec<LinkItem>, Mem>
     let mut items = Vec::new(alloc);
     replies(&mut items, alloc, 0, &write_reply(7, 1, 5))?;
     replies(&mut items, alloc, 2, &write_reply(7, 1, 5))?;
-    Ok(items)
-}
-
-// The first reply, and then items that change nothing.
-fn quiet(alloc: Global) -> Result<Vec<LinkItem>, Mem>
-    ensures all { IfOk result (λ v. All IsShort v.items) }
-{
-    let mut items = Vec::new(alloc);
-    replies(&mut items, alloc, 0, &write_reply(7, 1, 5))?;
-    let bytes = short(alloc, b"frame")?;
-    add(&mut items, LinkItem::Frame { to: 2, bytes })?;
-    let bytes = short(alloc, &write_reply(7, 1, 5))?;
-    let (at, conn) = (2, 0);
-    add(&mut items, LinkItem::Client { at, conn, bytes })?;
-    add(&mut items, LinkItem::Down { at: 0, peer: 2 })?;
-    replies(&mut items, alloc, 0, &write_reply(7, 1, 5))?;
-    replies(&mut items, alloc, 1, &write_reply(7, 2, 5))?;
-    replies(&mut items, alloc, 1, &write_refusal(7, 1, 5))?;
-    replies(&mut items, alloc, 4, &write_reply(7, 1, 5))?;
     Ok(items)
 }
 
@@ -116,18 +97,6 @@ fn is_for_nodes(plan: &LinkPlan) -> bool {
         LinkPlan::Node { .. } => false,
         LinkPlan::Cluster { .. } => false,
     }
-}
-
-// One reply isn't enough, and neither are others with what changes nothing.
-#[test]
-fn one_reply_settles_nothing(rt: HostRuntime) -> Result<(), Fail> {
-    let mut items = quiet(rt.alloc())?;
-    let mut link = MemLink::new(rt.alloc(), &items, &[])?;
-    assert!(rt; ended(&rt, rt.alloc(), &mut link)? == SubmitEnd::NoPosition);
-    replies(&mut items, rt.alloc(), 3, &write_reply(7, 1, 5))?;
-    let mut link = MemLink::new(rt.alloc(), &items, &[])?;
-    assert!(rt; ended(&rt, rt.alloc(), &mut link)? == SubmitEnd::Position(5));
-    Ok(())
 }
 
 // Each of its calls may fail: the start, four that send, and two that ask for an item. It makes no more.
