@@ -58,10 +58,7 @@ fn length_of(alloc: Global, bytes: &[u8]) -> Option<u32> {
 
 #[test]
 fn length_of_a_body(rt: HostRuntime) {
-    assert_eq!(rt;
-        length_of(rt.alloc(), b"\x01\x01\0\0\0\0\0\0\0\0abc"),
-        Some(13)
-    );
+    assert!(rt; length_of(rt.alloc(), b"\x01\x01\0\0\0\0\0\0\0\0abc") == Some(13));
 }
 
 // Where an input isn't one, if it isn't.

@@ -57,7 +57,7 @@ fn each_request_has_one_row(rt: HostRuntime) {
         (2, b"\0\0\0\x07\0\0\0\x01ho".as_slice(), None),
     ] {
         let entered = append(rt.alloc(), &mut log, origin, 0, command);
-        assert_eq!(rt; entered, Some(position), "of {origin}");
+        assert!(rt; entered == Some(position), "of {origin}");
     }
     assert!(rt; len(&log) == 1 && find(&log, 7, 1) == Some(0));
     assert!(rt; is_row(&log, 0, 200, 7, 1, b"hi") && !has_row(&log, 1));

@@ -9,19 +9,24 @@ use std::alloc::Global;
 use std::process::Abort;
 use std::test::Fail;
 
-// The frame of replica 3 for 1 with number 258 and two bytes.
-fn sealed(rt: &impl Abort, alloc: Global, version: FrameVersion) -> Result<Bytes, Mem> {
-    let sender = dealt(rt, 3).with_version(version);
+// The frame of a sender for 1 with number 258 and two bytes. Like the next ones it promises nothing, so that what
+// calls it has a short proof.
+fn sealed_by(rt: &impl Abort, alloc: Global, sender: &Keys) -> Result<Bytes, Mem> {
     assert!(rt; 1 < sender.n());
-    seal(alloc, &sender, 1, 258, b"\xaa\xbb")
+    seal(alloc, sender, 1, 258, b"\xaa\xbb")
+}
+
+// That of replica 3.
+fn sealed(rt: &impl Abort, alloc: Global, version: FrameVersion) -> Result<Bytes, Mem> {
+    sealed_by(rt, alloc, &dealt(rt, 3).with_version(version))
 }
 
 #[test]
 fn frames_are_sealed(rt: HostRuntime) -> Result<(), Fail> {
     let frame = sealed(&rt, rt.alloc(), FrameVersion::One)?;
-    assert_eq!(rt; frame.as_slice(), known_frame());
+    assert!(rt; frame.as_slice() == known_frame());
     let frame = sealed(&rt, rt.alloc(), FrameVersion::Two)?;
-    assert_eq!(rt; frame.as_slice(), known_frame_2());
+    assert!(rt; frame.as_slice() == known_frame_2());
     Ok(())
 }
 
@@ -30,7 +35,7 @@ fn is_opened(opened: &Opened) -> bool {
     opened.from == 3 && opened.seq == 258 && opened.body == b"\xaa\xbb".as_slice()
 }
 
-// Whether these bytes open as that frame. Like `fault_of` it promises nothing, so that what calls it has a short proof.
+// Whether these bytes open as that frame.
 fn opens(keys: &Keys, bytes: &[u8]) -> bool {
     match open_frame(keys, bytes) {
         Ok(opened) => is_opened(&opened),
@@ -56,16 +61,17 @@ fn frames_open(rt: HostRuntime) {
     assert!(rt; fault_of(&receiver, known_frame()) == Some(OpenFault::Version));
 }
 
+// The keys of a replica of 4, all of which are one.
+fn alike(rt: &impl Abort, me: u8) -> Keys {
+    let p = Params::new(4, 1).expect(rt, "numbers");
+    assert!(rt; p.n() == 4 && me < 4);
+    Keys::from_row(7, &p, me, &[[9; 32]; 4])
+}
+
 #[test]
 fn a_row_of_keys(rt: HostRuntime) -> Result<(), Fail> {
-    let p = Params::new(4, 1)?;
-    assert_eq!(rt; p.n(), 4);
-    let row = [[9; 32]; 4];
-    let sender = Keys::from_row(7, &p, 3, &row);
-    let receiver = Keys::from_row(7, &p, 1, &row);
-    assert!(rt; 1 < sender.n());
-    let frame = seal(rt.alloc(), &sender, 1, 0, b"")?;
-    assert_eq!(rt; open_frame(&receiver, frame.as_slice())?.from, 3);
+    let frame = sealed_by(&rt, rt.alloc(), &alike(&rt, 3))?;
+    assert!(rt; opens(&alike(&rt, 1), frame.as_slice()));
     Ok(())
 }
 

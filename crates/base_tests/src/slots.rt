@@ -4,7 +4,7 @@ use ritas_base::{Bytes, Mem, Slot, Texts};
 
 #[test]
 fn slots_of_commands(rt: HostRuntime) {
-    assert_eq!(rt; Slot::command(3, 258).bytes(), [1, 0, 0, 1, 2, 0, 0, 0, 3]);
+    assert!(rt; Slot::command(3, 258).bytes() == [1, 0, 0, 1, 2, 0, 0, 0, 3]);
 }
 
 // Texts, and a copy of them.
