@@ -17,5 +17,4 @@ pub mod Turning
 pub mod Appended
 pub mod VectorsAgree
 pub mod RoundRows
-pub mod OnePlace
 pub mod Laws

@@ -87,14 +87,22 @@ fn after_stop(alloc: Global, disk: &MemDisk, pick: u32) -> Result<MemDisk, Mem> 
 // Opens a journal that has no event, and appends an input and a turn.
 fn append_two(rt: &impl Abort, alloc: Global, disk: &mut MemDisk) -> Result<(), Mem> {
     let (mut journal, events) = open(alloc, disk).expect(rt, "opens");
-    assert_eq!(rt; events.len(), 0);
+    assert!(rt; events.len() == 0);
     let first = input(alloc, b"\0\0\0\x07\0\0\0\x01hi")?;
-    assert_eq!(rt; append(alloc, &mut journal, disk, &first), Ok(()));
-    assert_eq!(rt;
-        append(alloc, &mut journal, disk, &Event::Turn { at: 0 }),
-        Ok(())
-    );
+    assert!(rt; append(alloc, &mut journal, disk, &first) == Ok(()));
+    assert!(rt; append(alloc, &mut journal, disk, &Event::Turn { at: 0 }) == Ok(()));
     Ok(())
+}
+
+// Whether a file begins with the made byte and the head.
+fn has_head(file: &[u8; 100]) -> bool {
+    file[0] == 1 && &file[1..52] == head().as_slice()
+}
+
+// Whether the records of both events and a closed gate come behind it.
+fn has_records(file: &[u8; 100]) -> bool {
+    let records = b"\x01\0\x0e\x02\0\0\x0a\0\0\0\x07\0\0\0\x01hi\x01\0\x02\x03\0\0";
+    &file[52..75] == records.as_slice()
 }
 
 // What is appended stands in the file, and is given when it is opened again: 52 + 17 + 5 + 1 bytes.
@@ -102,13 +110,10 @@ fn append_two(rt: &impl Abort, alloc: Global, disk: &mut MemDisk) -> Result<(), 
 fn keeps_events(rt: HostRuntime) -> Result<(), Fail> {
     let mut disk = disk_of(rt.alloc(), &[])?;
     append_two(&rt, rt.alloc(), &mut disk)?;
-    let mut buf = [9; 100];
-    assert_eq!(rt; read(&mut disk, &mut buf), Ok(75));
-    assert_eq!(rt; buf[0], 1);
-    assert_eq!(rt; &buf[1..52], head().as_slice());
-    let records = b"\x01\0\x0e\x02\0\0\x0a\0\0\0\x07\0\0\0\x01hi\x01\0\x02\x03\0\0";
-    assert_eq!(rt; &buf[52..75], records.as_slice());
-    assert_eq!(rt; count_in(&rt, rt.alloc(), &mut disk), 2);
+    let mut file = [9; 100];
+    assert!(rt; read(&mut disk, &mut file) == Ok(75));
+    assert!(rt; has_head(&file) && has_records(&file));
+    assert!(rt; count_in(&rt, rt.alloc(), &mut disk) == 2);
     Ok(())
 }
 
@@ -156,6 +161,6 @@ fn head_of_one(rt: HostRuntime) {
     let front = b"RITJ\x01\x01\0\0\0\0\0\0\x07\x01\0\x06\x02\x01\0";
     let digest =
         b"\xf5\xa5\xfd\x42\xd1\x6a\x20\x30\x27\x98\xef\x6e\xd3\x09\x97\x9b\x43\x00\x3d\x23\x20\xd9\xf0\xe8\xea\x98\x31\xa9\x27\x59\xfb\x4b";
-    assert_eq!(rt; &head[..19], front.as_slice());
-    assert_eq!(rt; &head[19..], digest.as_slice());
+    assert!(rt; &head[..19] == front.as_slice());
+    assert!(rt; &head[19..] == digest.as_slice());
 }

@@ -18,18 +18,32 @@ const ROW: &str =
 6fc97c76a6bd5952721ebb98476b8a3a27feefde373336cdf676c173ae0a8e3f8606df533dcf8712f500001dd58b90d8216b490b1c39ec\
 6def544ed097df47a1c9f2ef18c1589cac99124772 dbb0471ec26f55ade613522ff67fb5fbfa97ce0c0b94e7fac021013d36bc519c";
 
+// Each text is named by one function alone: a proof unfolds a constant wherever it is named.
+
+fn zeros() -> &'static str {
+    ZEROS
+}
+
+fn master() -> &'static [u8; 32] {
+    MASTER
+}
+
+fn row() -> &'static str {
+    ROW
+}
+
 #[test]
 fn one_replica(rt: HostRuntime) {
     let p = Params::new(1, 0).expect(&rt, "numbers");
     let text = write_key_rows(rt.alloc(), 0, &p, &[0; 32]).expect(&rt, "memory");
-    assert_eq!(rt; text.as_slice(), ZEROS.as_bytes());
+    assert!(rt; text.as_slice() == zeros().as_bytes());
 }
 
 #[test]
 fn third_of_four(rt: HostRuntime) {
     let p = Params::new(4, 1).expect(&rt, "numbers");
-    let text = write_key_rows(rt.alloc(), 258, &p, MASTER).expect(&rt, "memory");
+    let text = write_key_rows(rt.alloc(), 258, &p, master()).expect(&rt, "memory");
     let text = std::str::from_utf8(text.as_slice()).expect(&rt, "text");
-    assert_eq!(rt; text.lines().count(), 4);
-    assert_eq!(rt; text.lines().nth(2), Some(ROW));
+    assert!(rt; text.lines().count() == 4);
+    assert!(rt; text.lines().nth(2) == Some(row()));
 }

@@ -1,12 +1,11 @@
 //! Tests of the crates below the layers and beside them, by their public calls alone.
 //!
-//! They stand beside these crates and not in them because a crate that has tests is proved twice. Where a test wants what its
-//! crate keeps to itself, it stands in that crate.
+//! They stand beside these crates and not in them because a crate that has tests is proved twice.
 //!
 //! | Module | Tests of |
 //! |---|---|
 //! | `slots` | `ritas_base` |
-//! | `streams`, `links`, `disks` | `outside` |
+//! | `streams`, `disks` | `outside` |
 //! | `bodies`, `values` | `frame_codec` |
 //! | `tags`, `frames`, `channels`, `notes`, with the keys of `dealt` | `keyed_channel` |
 //! | `sizes` | `ritas_base` and `keyed_channel`, where memory is ample |
@@ -41,8 +40,6 @@ mod holding;
 mod journals;
 #[cfg(test)]
 mod key_texts;
-#[cfg(test)]
-mod links;
 #[cfg(test)]
 mod notes;
 #[cfg(test)]

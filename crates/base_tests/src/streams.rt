@@ -3,37 +3,46 @@
 use outside::{
     Buffer, Failed, FromRead, MemSink, MemSource, Sink, Source, ToWrite, read_whole, write_all,
 };
+use ritas_base::Mem;
+use std::alloc::Global;
 use std::io;
 use std::io::{ErrorKind, Read, Write};
 use std::test::*;
 
-// A source whose second call fails.
+// The next ones promise nothing, so that what calls them has a short proof.
+
+fn write<K: Sink>(sink: &mut K, text: &[u8]) -> bool {
+    write_all(sink, text).is_ok()
+}
+
+// What a source gives that has this text.
+fn given(alloc: Global, text: &[u8]) -> Result<Vec<u8>, Fail> {
+    let mut source = MemSource::new(alloc, text, &[])?;
+    Ok(read_whole(alloc, &mut source, 5)?)
+}
+
+fn sink_of(alloc: Global) -> Result<MemSink, Mem> {
+    MemSink::new(alloc, 5, &[])
+}
+
+// A text through each form in memory.
 #[test]
-fn a_source_fails_once(rt: HostRuntime) -> Result<(), Fail> {
-    let mut source = MemSource::new(rt.alloc(), b"abcde", &[1])?;
-    let mut buf = [b'.'; 3];
-    for answer in [Ok(3), Err(Failed), Ok(2), Ok(0)] {
-        assert_eq!(rt; source.read(&mut buf), answer);
-    }
+fn goes_through_memory(rt: HostRuntime) -> Result<(), Fail> {
+    let text = given(rt.alloc(), b"abcde")?;
+    let mut sink = sink_of(rt.alloc())?;
+    assert!(rt; write(&mut sink, &text) && sink.taken() == b"abcde".as_slice());
+    assert!(rt; !write(&mut sink, b"f"));
     Ok(())
 }
 
-// A text through each form in memory. A buffer that is emptied takes again.
+// A buffer that is emptied takes again.
 #[test]
-fn goes_through_memory(rt: HostRuntime) -> Result<(), Fail> {
-    let mut source = MemSource::new(rt.alloc(), b"abcde", &[])?;
-    let text = read_whole(rt.alloc(), &mut source, 5)?;
-    let mut sink = MemSink::new(rt.alloc(), 5, &[])?;
+fn a_buffer_takes_again(rt: HostRuntime) {
     let mut buffer = Buffer::new(rt.alloc());
-    assert_eq!(rt; write_all(&mut sink, &text), Ok(()));
-    assert_eq!(rt; write_all(&mut buffer, sink.taken()), Ok(()));
-    assert_eq!(rt; (buffer.taken(), buffer.len()), (b"abcde".as_slice(), 5));
-    assert_eq!(rt; sink.write(b"f"), Err(Failed));
+    assert!(rt; write(&mut buffer, b"abcde") && buffer.len() == 5);
     buffer.clear();
-    assert_eq!(rt; buffer.len(), 0);
-    assert_eq!(rt; write_all(&mut buffer, b"fg"), Ok(()));
-    assert_eq!(rt; buffer.taken(), b"fg".as_slice());
-    Ok(())
+    assert!(rt; buffer.len() == 0 && write(&mut buffer, b"fg"));
+    assert!(rt; buffer.taken() == b"fg".as_slice());
 }
 
 // A reader and a writer of which the second call fails, and each other takes at most two bytes.
@@ -74,7 +83,7 @@ fn reads_over_the_system(rt: HostRuntime) {
     let mut source = FromRead::new(Flaky { calls: 0 });
     let mut buf = [b'.'; 3];
     for answer in [Ok(2), Err(Failed), Ok(2)] {
-        assert_eq!(rt; source.read(&mut buf), answer);
+        assert!(rt; source.read(&mut buf) == answer);
     }
 }
 
@@ -83,7 +92,7 @@ fn reads_over_the_system(rt: HostRuntime) {
 fn goes_over_the_system(rt: HostRuntime) {
     let mut sink = ToWrite::new(Flaky { calls: 0 });
     for answer in [Ok(2), Err(Failed), Ok(2)] {
-        assert_eq!(rt; sink.write(b"abc"), answer);
+        assert!(rt; sink.write(b"abc") == answer);
     }
-    assert_eq!(rt; sink.write(b""), Err(Failed));
+    assert!(rt; sink.write(b"") == Err(Failed));
 }

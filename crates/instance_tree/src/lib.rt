@@ -32,8 +32,6 @@ mod keys;
 mod origin;
 mod origins;
 mod ring;
-#[cfg(test)]
-mod tests;
 mod tree;
 
 pub use tree::Tree;

@@ -13,9 +13,9 @@ type LoneCore = Core<CmdRoot, Rb, ZeroCoin, ZeroTagger>;
 
 // An input is delivered once its INIT, ECHO and READY came to the replica itself.
 fn deliver_one(rt: &impl Abort, alloc: Global, core: &mut LoneCore, out: &mut Vec<Msg>) {
-    assert_eq!(rt; core.input(alloc, b"a", out), Ok(Answer::Took));
+    assert!(rt; core.input(alloc, b"a", out) == Ok(Answer::Took));
     for _ in 0..3 {
-        assert_eq!(rt; core.turn(alloc, out), Ok(Answer::Took));
+        assert!(rt; core.turn(alloc, out) == Ok(Answer::Took));
     }
 }
 
@@ -31,7 +31,7 @@ fn past_commands_are_dropped(rt: HostRuntime) {
     }
     for number in 0..70 {
         let slot = Slot::command(0, number);
-        assert_eq!(rt; core.broadcasts().find(&slot).is_some(), number >= 6);
+        assert!(rt; core.broadcasts().find(&slot).is_some() == (number >= 6));
         assert!(rt; core.delivered(&slot) == Some(b"a".as_slice()));
     }
 }

@@ -9,19 +9,21 @@
 //! | `votes`, `digests` | `reliable_bcast` |
 //! | `columns` | `echo_bcast` |
 //! | `bits` | `binary_consensus` |
-//! | `vectors` | `vector_consensus` |
-//! | `orders` | `atomic_bcast` |
-//! | `cores`, `drops` | `ritas_core` |
+//! | `alone` | the services: `binary_consensus`, `multivalued`, `vector_consensus` and `atomic_bcast` |
+//! | `trees` | `instance_tree` |
+//! | `lanes` | `vote_lanes` |
+//! | `drops` | `ritas_core` |
+//! | `laws` | the laws of all |
 //!
 //! `zeros` has a tagger and a coin whose bytes are zeros, and a core with these.
 #![tactic(auto)]
 
 #[cfg(test)]
+mod alone;
+#[cfg(test)]
 mod bits;
 #[cfg(test)]
 mod columns;
-#[cfg(test)]
-mod cores;
 #[cfg(test)]
 mod digests;
 #[cfg(test)]
@@ -29,11 +31,13 @@ mod drops;
 #[cfg(test)]
 mod following;
 #[cfg(test)]
-mod orders;
+mod lanes;
+#[cfg(test)]
+mod laws;
 #[cfg(test)]
 mod slots;
 #[cfg(test)]
-mod vectors;
+mod trees;
 #[cfg(test)]
 mod votes;
 #[cfg(test)]

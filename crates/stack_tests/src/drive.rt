@@ -34,7 +34,18 @@ fn plan(rt: &impl Abort, order: Order) -> Plan {
     }
 }
 
-// How driving a plan ends, where this text is what is written.
+// Each text is named by one function alone: a proof unfolds a constant wherever it is named.
+
+fn report() -> &'static [u8] {
+    REPORT
+}
+
+fn schedule() -> &'static [u8] {
+    SCHEDULE
+}
+
+// How driving a plan ends, where this text is what is written. It promises nothing, so that what calls it has a
+// short proof.
 fn end(
     alloc: Global,
     plan: &Plan,
@@ -53,16 +64,11 @@ fn end(
 
 #[test]
 fn drives_with_ample_memory(rt: HostRuntime) -> Result<(), Fail> {
-    let rows = [
-        (Order::Sweep, DriveWhat::Report, REPORT),
-        (Order::Random, DriveWhat::Report, REPORT),
-        (Order::Sweep, DriveWhat::Schedule, SCHEDULE),
-        (Order::Random, DriveWhat::Schedule, SCHEDULE),
-    ];
-    for (order, what, text) in rows {
+    let wanted = Some(DriveEnd::Done(Audit::Holds));
+    for order in [Order::Sweep, Order::Random] {
         let plan = plan(&rt, order);
-        let wanted = Some(DriveEnd::Done(Audit::Holds));
-        assert_eq!(rt; end(rt.alloc(), &plan, what, text, &[])?, wanted);
+        assert!(rt; end(rt.alloc(), &plan, DriveWhat::Report, report(), &[])? == wanted);
+        assert!(rt; end(rt.alloc(), &plan, DriveWhat::Schedule, schedule(), &[])? == wanted);
     }
     Ok(())
 }
@@ -70,10 +76,6 @@ fn drives_with_ample_memory(rt: HostRuntime) -> Result<(), Fail> {
 #[test]
 fn sink_fails(rt: HostRuntime) -> Result<(), Fail> {
     let plan = plan(&rt, Order::Sweep);
-    let wanted = Some(DriveEnd::Write);
-    assert_eq!(rt;
-        end(rt.alloc(), &plan, DriveWhat::Report, b"", &[0])?,
-        wanted
-    );
+    assert!(rt; end(rt.alloc(), &plan, DriveWhat::Report, b"", &[0])? == Some(DriveEnd::Write));
     Ok(())
 }

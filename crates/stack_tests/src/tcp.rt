@@ -92,26 +92,6 @@ fn gives_up<R: Net + Wait>(
     }
 }
 
-// Whether both replicas are up first, as each of them knows, and then frames of replica 1 come to replica 0 in their order.
-fn frames_come<R: Net + Wait>(
-    rt: &R,
-    alloc: Global,
-    link: &mut TcpLink,
-) -> Result<bool, LinkFault> {
-    link.send(rt, alloc, 1, 0, b"one")?;
-    link.send(rt, alloc, 1, 0, b"other")?;
-    let are_up = gives_up(rt, alloc, link, 1, 0)? && gives_up(rt, alloc, link, 0, 1)?;
-    Ok(are_up && gives_frame(rt, alloc, link, b"one")? && gives_frame(rt, alloc, link, b"other")?)
-}
-
-#[test]
-fn a_cluster(rt: HostRuntime) -> Result<(), Fail> {
-    let peers = addresses(rt.alloc(), b"127.0.0.1:21010", b"127.0.0.1:21011")?;
-    let mut link = started(&rt, rt.alloc(), &LinkPlan::Cluster { peers })?;
-    assert!(rt; frames_come(&rt, rt.alloc(), &mut link)?);
-    Ok(())
-}
-
 // Whether what is there by now is a frame of these bytes for replica 0.
 fn has_frame(alloc: Global, link: &mut TcpLink, wanted: &[u8]) -> Result<bool, LinkFault> {
     match link.next_now(alloc)? {
@@ -130,11 +110,9 @@ fn both_come<R: Net + Wait>(rt: &R, alloc: Global, link: &mut TcpLink) -> Result
 }
 
 #[test]
-fn what_was_read_is_there(rt: HostRuntime) -> Result<(), Fail> {
-    let mut link = TcpLink::new(rt.alloc());
-    assert!(rt; link.next_now(rt.alloc())?.is_none());
+fn a_cluster(rt: HostRuntime) -> Result<(), Fail> {
     let peers = addresses(rt.alloc(), b"127.0.0.1:21030", b"127.0.0.1:21031")?;
-    link.start(&rt, rt.alloc(), &LinkPlan::Cluster { peers })?;
+    let mut link = started(&rt, rt.alloc(), &LinkPlan::Cluster { peers })?;
     assert!(rt; both_come(&rt, rt.alloc(), &mut link)?);
     Ok(())
 }

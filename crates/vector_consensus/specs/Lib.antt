@@ -9,5 +9,4 @@ pub mod Going
 pub mod Holding
 pub mod Opening
 pub mod Stands
-pub mod Refusing
 pub mod Laws

@@ -16,8 +16,6 @@
 
 mod count;
 mod rows;
-#[cfg(test)]
-mod tests;
 
 pub use count::count_equal;
 pub use rows::rows_equal;

@@ -1,18 +1,7 @@
-//! Tests of the tree: what is found, what is written, and exactly which slots each drop takes.
+//! Tests of a tree: what is found and written, and what is made again where it was dropped.
 
-use super::*;
+use instance_tree::Tree;
 use ritas_base::Slot;
-
-fn slot(class: u8, a: u32, origin: u8) -> Slot {
-    Slot {
-        class,
-        a,
-        attempt: 0,
-        bround: 0,
-        step: 0,
-        origin,
-    }
-}
 
 // Makes a value at a slot that has none.
 fn put(rt: &HostRuntime, tree: &mut Tree<u32>, slot: Slot, value: u32) -> bool {
@@ -41,56 +30,6 @@ fn a_value_is_made_found_and_written(rt: HostRuntime) {
     }
     assert!(rt; has(&tree, Slot::command(2, 7), 71));
     assert!(rt; !put(&rt, &mut tree, Slot::command(2, 7), 72));
-}
-
-// Of classes 0 to 6 and rounds 6 to 8, those of classes 2 to 5 and round 6 go.
-#[test]
-fn rounds_are_dropped(rt: HostRuntime) {
-    let mut tree = Tree::new(rt.alloc());
-    for class in 0..7 {
-        for a in 6..9 {
-            assert!(rt; put(&rt, &mut tree, slot(class, a, 3), a));
-        }
-    }
-    tree.drop_before(7);
-    for class in 0..7 {
-        for a in 6..9 {
-            let stays = a >= 7 || class < 2 || class > 5;
-            assert!(rt; has(&tree, slot(class, a, 3), a) == stays);
-        }
-    }
-}
-
-// Of two origins' commands and an origin's round, the commands below 7 of one origin go.
-#[test]
-fn commands_are_dropped(rt: HostRuntime) {
-    let mut tree = Tree::new(rt.alloc());
-    for a in 5..9 {
-        assert!(rt; put(&rt, &mut tree, Slot::command(3, a), a));
-        assert!(rt; put(&rt, &mut tree, Slot::command(4, a), a));
-        assert!(rt; put(&rt, &mut tree, slot(2, a, 3), a));
-    }
-    tree.drop_commands(3, 7);
-    for a in 5..9 {
-        assert!(rt; has(&tree, Slot::command(3, a), a) == (a >= 7));
-        assert!(rt; has(&tree, Slot::command(4, a), a));
-        assert!(rt; has(&tree, slot(2, a, 3), a));
-    }
-}
-
-// Rounds far apart stand side by side, and what is made after a drop takes nobody's place.
-#[test]
-fn rounds_far_apart_stand_side_by_side(rt: HostRuntime) {
-    let mut tree = Tree::new(rt.alloc());
-    for round in [9, 1, 17, 4_294_967_295] {
-        assert!(rt; put(&rt, &mut tree, slot(5, round, 0), round));
-    }
-    tree.drop_before(10);
-    assert!(rt; tree.find(&slot(5, 1, 0)).is_none());
-    assert!(rt; put(&rt, &mut tree, slot(5, 25, 0), 25));
-    for round in [17, 4_294_967_295, 25] {
-        assert!(rt; has(&tree, slot(5, round, 0), round));
-    }
 }
 
 // How many slots `nth` has.
@@ -134,22 +73,6 @@ fn are_left(tree: &Tree<u32>, round: u32, below: u32) -> bool {
         }
     }
     true
-}
-
-// Rounds go first, one by one and several at once, and then commands.
-#[test]
-fn many_rounds_are_dropped_and_then_commands(rt: HostRuntime) {
-    let mut tree = Tree::new(rt.alloc());
-    assert!(rt; fill(&rt, &mut tree) && are_left(&tree, 0, 0));
-    for round in [1, 2, 65, 129] {
-        tree.drop_before(round);
-        assert!(rt; are_left(&tree, round, 0));
-    }
-    tree.drop_commands(200, 129);
-    assert!(rt; are_left(&tree, 129, 129));
-    tree.drop_before(1_000_000);
-    tree.drop_commands(200, 1_000_000);
-    assert!(rt; are_left(&tree, 1_000_000, 1_000_000));
 }
 
 // Commands go first. What went is made again, lesser numbers too, and goes in another order.

@@ -1,13 +1,6 @@
-//! Tests of the two calls: their worked rows, and each length of a row.
+//! Tests of the lanes as they are built: a row of zeros, and each length of a row.
 
-use super::*;
-
-#[test]
-fn places_are_counted(rt: HostRuntime) {
-    assert!(rt; count_equal(&[], 0) == 0);
-    assert!(rt; count_equal(&[2; 31], 2) == 31);
-    assert!(rt; count_equal(&[0, 1, 255, 1], 1) == 2);
-}
+use vote_lanes::{count_equal, rows_equal};
 
 #[test]
 fn rows_are_compared(rt: HostRuntime) {
