@@ -5,6 +5,7 @@ pub mod FramesSent
 pub mod Logs
 pub mod TrueReplies
 pub mod Stepping
+pub mod Pieces
 pub mod Turning
 pub mod Rounding
 pub mod Alone
