@@ -60,10 +60,10 @@ unopened_counts config d fault unopened = by_fault fault unopened.cause unopened
     by_fault journal_faults.Mem cause none = none_failed _ _ (other journal_faults.Mem (λ e. cc e)) (none (λ e. cc e))
 
 -- so it is of an answer that is one of these
-pub refused_counts : (config : NodeConfig) (d : DiskSeen) (P : Type 0) (result : Result ServeEnd JournalFault) → IsErr result → IfErr result (λ fault. Unopened config d fault × P)
+pub refused_counts : (config : NodeConfig) (d : DiskSeen) (P Q : Type 0) (result : Result ServeEnd JournalFault) → IsErr result → IfErr result (λ fault. Unopened config d fault × P × Q)
     → CountsIf d.few d.many (HasDiskFailed result)
-refused_counts config d P (Ok end) failed unopened = absurd cc
-refused_counts config d P (Err fault) failed unopened = unopened_counts config d fault unopened.0
+refused_counts config d P Q (Ok end) failed unopened = absurd cc
+refused_counts config d P Q (Err fault) failed unopened = unopened_counts config d fault unopened.0
 
 -- ---- a session without a journal
 

@@ -72,7 +72,8 @@ returns-in_err-serve_life-clause-unserved g c =
 
 pub returns-in_err-journal-clause-disk_counts : goal.returns-in_err-journal-clause-disk_counts
 returns-in_err-journal-clause-disk_counts g c =
-    refused_counts c.args.config (disk_seen g.D.Disk c.args.disk.now c.open_journal.new.disk) _ c.from_residual.result c.from_residual.ensures.0 (returns-in_err-journal-clause-unserved g c)
+    refused_counts c.args.config (disk_seen g.D.Disk c.args.disk.now c.open_journal.new.disk) (c.args.output.now ≡ c.args.output.now) (c.args.link.now ≡ c.args.link.now) c.from_residual.result
+    c.from_residual.ensures.0 (returns-in_err-journal-clause-unserved g c)
 
 pub returns-clause-disk_counts : goal.returns-clause-disk_counts
 returns-clause-disk_counts g c =
@@ -80,5 +81,5 @@ returns-clause-disk_counts g c =
 
 pub returns-in_err-serve_life-clause-disk_counts : goal.returns-in_err-serve_life-clause-disk_counts
 returns-in_err-serve_life-clause-disk_counts g c =
-    refused_counts c.args.config (disk_seen g.D.Disk c.args.disk.now c.serve_life.new.disk) _ c.from_residual-in_err-serve_life.result c.from_residual-in_err-serve_life.ensures.0
-    (returns-in_err-serve_life-clause-unserved g c)
+    refused_counts c.args.config (disk_seen g.D.Disk c.args.disk.now c.serve_life.new.disk) (c.serve_life.new.output ≡ c.args.output.now) (c.serve_life.new.link ≡ c.args.link.now)
+    c.from_residual-in_err-serve_life.result c.from_residual-in_err-serve_life.ensures.0 (returns-in_err-serve_life-clause-unserved g c)
