@@ -62,7 +62,7 @@ pub kept_past : (head : List ℕ) (past : List Event) (journal : JournalState) (
     → (tells ≡ true → JournalStandsFor journal head past × AllOpen journal.me head past (disk_state_of now)) → JournalStands head past [] journal tells now now count count
 kept_past head past journal tells now count stands = record {
   kept = λ t. record { stands = (stands t).0; images = (stands t).1; since = leaves_none (OpensSome journal.me head past []) now };
-  later = omega arith;
+  none_failed = refl;
 }
 
 -- ---- what the tape took

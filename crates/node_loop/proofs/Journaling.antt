@@ -1,10 +1,10 @@
 -- What a journal kept goes on.
-use Rattle.std.proofs.Common.{◌≡◌, ℕ, ◌≤◌, ◌<◌, ◌-◌, ◌^◌, min, Bool, true, List, [], ◌∷◌, ◌++◌, Result, Ok, Err, inl, inr, refl, sym, ap, ◌∙◌, subst, append_assoc, arith}
+use Rattle.std.proofs.Common.{◌≡◌, ◌≢◌, ℕ, ◌≤◌, ◌<◌, ◌-◌, ◌^◌, min, Bool, true, List, [], ◌∷◌, ◌++◌, Result, Ok, Err, inl, inr, refl, sym, ap, ◌∙◌, subst, append_assoc, arith}
 use Rattle.std.specs.List.{AllByRecursion}
 use Rattle.ritas_base.specs.declared.event.Event.{Event}
 use Rattle.outside.specs.Disks.{DiskState, MayLeave, LeavesOnly, disk_state_of}
 use Rattle.outside.specs.DisksLaws.{leaves_then, leaves_weaker}
-use Rattle.outside.specs.Faults.{Rose}
+use Rattle.outside.specs.Faults.{count_after}
 use Rattle.schedule_file.specs.FileBytes.{limit}
 use Rattle.event_journal.specs.Journal.{Opens}
 use Rattle.event_journal.specs.Appending.{JournalState, AllOpen, JournalStandsFor, OpensWithout, AppendsEvents, length_with}
@@ -54,11 +54,6 @@ left_now : (P : List ℕ → Type 0) (old new : List DiskState) → LeavesOnly P
     → (image : List ℕ) → MayLeave (disk_state_of new) image → P image
 left_now P old new leaves before = last_image P leaves.more old new leaves.states leaves.each before
 
--- the count rose
-rose_then : (few some many : ℕ) → few ≤ some → Rose some many → Rose few many
-rose_then few some many le (inl less) = inl (omega (arith, le, less))
-rose_then few some many le (inr last) = inr last
-
 module _ (head : List ℕ) (past given group : List Event) (tells : Bool) (before now : List DiskState) (few some : ℕ) (old : JournalState)
     (stands : JournalStands head past given old tells before now few some) where
   -- what an append of the group does to a disk
@@ -86,9 +81,9 @@ module _ (head : List ℕ) (past given group : List Event) (tells : Bool) (befor
       (left_now (OpensWithout old.me head (given ++ past) group) now then did.kept.since (λ image may. inr (k.images image may)))
 
   -- it was appended
-  pub stands_on : (new : JournalState) (then : List DiskState) (many : ℕ) → new.me ≡ old.me → some ≤ many → AppendsGroup new then (Ok tt)
+  pub stands_on : (new : JournalState) (then : List DiskState) (many : ℕ) → new.me ≡ old.me → many ≡ some → AppendsGroup new then (Ok tt)
       → JournalStands head past (group ++ given) new tells before then few many
-  stands_on new then many me le appends = record {
+  stands_on new then many me none appends = record {
     kept = λ t. let k = stands.kept t in
         let did = appends t head (given ++ past) k.stands k.images in
         let together = append_assoc group given past in
@@ -98,17 +93,18 @@ module _ (head : List ℕ) (past given group : List Event) (tells : Bool) (befor
               (subst (λ (i : ℕ). AllOpen i head (group ++ (given ++ past)) (disk_state_of then)) (sym me) did.kept.images);
           since = went_on new then (Ok tt) me appends t;
         };
-    later = omega (arith, stands.later, le);
+    none_failed = none ∙ stands.none_failed;
   }
 
   -- or not
   pub fails_so : (new : JournalState) (then : List DiskState) (many : ℕ) (fault : JournalFault) (kind : ArchiveFault) → new.me ≡ old.me → some ≤ many → AppendsGroup new then (Err fault)
-      → (kind ≡ archive.Disk → Rose some many) → ((x : ℕ) → kind ≡ archive.Full x → ⊥) → JournalFails head past group given new tells before then few many kind
-  fails_so new then many fault kind me le appends rises whole = record {
+      → (kind ≡ archive.Disk → many ≡ count_after some) → (kind ≢ archive.Disk → many ≡ some) → ((x : ℕ) → kind ≡ archive.Full x → ⊥) → JournalFails head past group given new tells before then few many kind
+  fails_so new then many fault kind me le appends rises stays_so whole = record {
     left = leaves new then (Err fault) me appends;
     since = went_on new then (Err fault) me appends;
-    later = omega (arith, stands.later, le);
-    disk = λ is. rose_then few some many stands.later (rises is);
+    later = omega (arith, stands.none_failed, le);
+    one_failed = λ is. rises is ∙ ap count_after stands.none_failed;
+    none_failed = λ other. stays_so other ∙ stands.none_failed;
     full = λ x is. absurd (whole x is);
   }
 
@@ -117,8 +113,9 @@ module _ (head : List ℕ) (past given group : List Event) (tells : Bool) (befor
   fails_full x is long = record {
     left = stays;
     since = λ t. since_more old.me head past group given before now (stands.kept t).since;
-    later = stands.later;
-    disk = λ same. absurd (cc same);
+    later = omega (arith, stands.none_failed);
+    one_failed = λ same. absurd (cc same);
+    none_failed = λ other. stands.none_failed;
     full = λ y same. let one : x ≡ y = cc in (sym one ∙ is, subst (λ (n : ℕ). limit < n) one long, λ t. stands.kept t);
   }
 
@@ -127,7 +124,8 @@ module _ (head : List ℕ) (past given group : List Event) (tells : Bool) (befor
   fails_untaken = record {
     left = stays;
     since = λ t. since_more old.me head past group given before now (stands.kept t).since;
-    later = stands.later;
-    disk = λ same. absurd (cc same);
+    later = omega (arith, stands.none_failed);
+    one_failed = λ same. absurd (cc same);
+    none_failed = λ other. stands.none_failed;
     full = λ y same. absurd (cc same);
   }

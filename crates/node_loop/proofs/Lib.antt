@@ -6,6 +6,7 @@ pub mod Logs
 pub mod TrueReplies
 pub mod PieceReading
 pub mod Stepping
+pub mod Pieces
 pub mod Turning
 pub mod Rounding
 pub mod Alone

@@ -1,5 +1,5 @@
 -- The tape and the link go on together.
-use Rattle.std.proofs.Common.{◌≡◌, ℕ, ◌+◌, ◌<◌, List, [], ◌∷◌, ◌++◌, length, take, drop, get_or, reverse, Ok, Err, sym, ap, ap₂, ◌∙◌, append_assoc, arith, inl, inr}
+use Rattle.std.proofs.Common.{◌≡◌, ℕ, ◌+◌, ◌<◌, List, [], ◌∷◌, ◌++◌, length, take, drop, get_or, reverse, Ok, Err, sym, subst, ap, ap₂, ◌∙◌, append_assoc, arith, inl, inr}
 use Rattle.std.specs.List.{flat_map}
 use Rattle.std.proofs.lemmas.List.{append-nil, reverse-reverse, take_more, drop_more, take-append-drop}
 use Rattle.std.proofs.lemmas.Grind.{flat_map-append}
@@ -8,7 +8,7 @@ use Rattle.outside.specs.LinkCalls.{LinkDid}
 use Rattle.outside.specs.LinkCallsLaws.{back_then}
 use Rattle.outside.specs.Links.{LinkAct, failed_once, short_once, faults_after}
 use Rattle.outside.specs.Writing.{TookFront}
-use Rattle.outside.specs.WritingLaws.{all_written, front_then}
+use Rattle.outside.specs.WritingLaws.{all_written, front_more}
 use Rattle.schedule_file.specs.Spelling.{event_text}
 use Rattle.outside.specs.declared.link.FaultCounts.{FaultCounts}
 use Rattle.outside.specs.declared.link.LinkFault.{LinkFault}
@@ -37,22 +37,20 @@ text_from es i e lt is =
     ∙ ap₂ (λ (a b : List ℕ). a ++ b) (sym (text_turned (take i es)))
     (ap (flat_map event_text) (drop_more es i e lt) ∙ ap (λ (x : Event). event_text x ++ flat_map event_text (drop (i + 1) es)) (sym is))
 
--- an event more was written
-pub text_more : (es : List Event) (i : ℕ) (e : Event) (old mid new : List ℕ) → i < length es → e ≡ get_or es i e → mid ≡ old ++ events_text (reverse (take i es)) → new ≡ mid ++ event_text e
-    → new ≡ old ++ events_text (reverse (take (i + 1) es))
-text_more es i e old mid new lt is before wrote =
-    let a = events_text (reverse (take i es)) in
-    let more : a ++ event_text e ≡ events_text (reverse (take (i + 1) es)) =
+-- an event more
+pub text_more : (es : List Event) (i : ℕ) (e : Event) → i < length es → e ≡ get_or es i e → events_text (reverse (take i es)) ++ event_text e ≡ events_text (reverse (take (i + 1) es))
+text_more es i e lt is =
     sym (text_turned (take (i + 1) es)
     ∙ (ap (flat_map event_text) (take_more es i e lt) ∙ flat_map-append event_text (take i es) (get_or es i e ∷ []))
-    ∙ ap₂ (λ (x y : List ℕ). x ++ y) (sym (text_turned (take i es))) (append-nil (event_text (get_or es i e)) ∙ ap event_text (sym is))) in
-    wrote ∙ (ap (λ (l : List ℕ). l ++ event_text e) before ∙ (append_assoc old a (event_text e) ∙ ap (λ (l : List ℕ). old ++ l) more))
+    ∙ ap₂ (λ (x y : List ℕ). x ++ y) (sym (text_turned (take i es))) (append-nil (event_text (get_or es i e)) ∙ ap event_text (sym is)))
 
--- or a front of it
-pub text_front : (es : List Event) (i : ℕ) (e : Event) (old mid new : List ℕ) → i < length es → e ≡ get_or es i e → mid ≡ old ++ events_text (reverse (take i es)) → TookFront mid new (event_text e)
+-- a front with one more is a front of all
+pub text_front : (es : List Event) (i : ℕ) (e : Event) (old new : List ℕ) → i < length es → e ≡ get_or es i e → TookFront old new (events_text (reverse (take i es)) ++ event_text e)
     → TookFront old new (events_text (reverse es))
-text_front es i e old mid new lt is before front =
-    front_then old mid new (events_text (reverse (take i es))) (event_text e) (flat_map event_text (drop (i + 1) es)) (events_text (reverse es)) (text_from es i e lt is) before front
+text_front es i e old new lt is front =
+    let rest = flat_map event_text (drop (i + 1) es) in
+    subst (λ (l : List ℕ). TookFront old new l) (append_assoc (events_text (reverse (take i es))) (event_text e) rest ∙ sym (text_from es i e lt is))
+    (front_more old new (events_text (reverse (take i es)) ++ event_text e) rest front)
 
 -- ---- the link
 

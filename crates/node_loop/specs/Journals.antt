@@ -1,8 +1,8 @@
 -- What a journal keeps of the events that it is given. Lists of events have the newest first.
-use Rattle.std.specs.Prelude.{◌≡◌, ℕ, ◌≤◌, ◌<◌, ◌-◌, ◌^◌, min, Bool, true, List, [], ◌∷◌, ◌++◌}
+use Rattle.std.specs.Prelude.{◌≡◌, ◌≢◌, ℕ, ◌≤◌, ◌<◌, ◌-◌, ◌^◌, min, Bool, true, List, [], ◌∷◌, ◌++◌}
 use Rattle.ritas_base.specs.declared.event.Event.{Event}
 use Rattle.outside.specs.Disks.{DiskState, MayLeave, LeavesOnly, disk_state_of}
-use Rattle.outside.specs.Faults.{Rose}
+use Rattle.outside.specs.Faults.{count_after}
 use Rattle.outside.specs.declared.disk.Disk.{Ghosts as DiskGhosts}
 use Rattle.schedule_file.specs.FileBytes.{limit}
 use Rattle.event_journal.specs.Journal.{Opens}
@@ -26,10 +26,10 @@ pub record HasKept (head : List ℕ) (past given : List Event) (journal : Journa
   pub images : AllOpen journal.me head (given ++ past) (disk_state_of now)
   pub since : LeavesOnly (OpensSome journal.me head past given) before now
 
--- so it is, where the disk tells, and its count of faults didn't fall
+-- so it is, where the disk tells, and no call of the disk failed
 pub record JournalStands (head : List ℕ) (past given : List Event) (journal : JournalState) (tells : Bool) (before now : List DiskState) (few many : ℕ) : Type 0 where
   pub kept : tells ≡ true → HasKept head past given journal before now
-  pub later : few ≤ many
+  pub none_failed : many ≡ few
 
 -- with the newest group the file would be so long, up to 2^64 - 1, which is too long; all is as it was before it
 abbrev pub IsFull : List ℕ → List Event → List Event → List Event → JournalState → Bool → List DiskState → List DiskState → ℕ → Type 0
@@ -40,14 +40,15 @@ IsFull head past group older journal tells before now x =
 abbrev pub OpensNewest : ℕ → List ℕ → List Event → List Event → List Event → DiskState → Type 0
 OpensNewest me head past group older s = (image : List ℕ) → MayLeave s image → OpensWithout me head (older ++ past) group image
 
--- it failed over the newest group of the given events: the disk's count rose, where that was the cause; every image opens now as the others, with
--- all of the group or with none of it; and at each moment every image opened as the past events and the first of the given
+-- it failed over the newest group of the given events: one call of the disk failed where that was the cause, and else none; every image opens now as
+-- the others, with all of the group or with none of it; and at each moment every image opened as the past events and the first of the given
 pub record JournalFails (head : List ℕ) (past group older : List Event) (journal : JournalState) (tells : Bool) (before now : List DiskState) (few many : ℕ)
     (fault : ArchiveFault) : Type 0 where
   pub left : tells ≡ true → OpensNewest journal.me head past group older (disk_state_of now)
   pub since : tells ≡ true → LeavesOnly (OpensSome journal.me head past (group ++ older)) before now
   pub later : few ≤ many
-  pub disk : fault ≡ archive.Disk → Rose few many
+  pub one_failed : fault ≡ archive.Disk → many ≡ count_after few
+  pub none_failed : fault ≢ archive.Disk → many ≡ few
   pub full : (x : ℕ) → fault ≡ archive.Full x → IsFull head past group older journal tells before now x
 
 -- ---- a journal by its name, which is its replica's number and the head of its file

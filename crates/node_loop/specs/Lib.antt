@@ -6,6 +6,7 @@ pub mod Resending
 pub mod Serving
 pub mod Ends
 pub mod Outs
+pub mod Pieces
 pub mod Told
 pub mod ToldRows
 pub mod Served

@@ -10,11 +10,11 @@ ghost use Rattle.node_loop.specs.Outs.{outs_of, tells_of};
 ghost use Rattle.node_loop.specs.Served.{AreHere};
 
 use crate::archive::Archive;
-use crate::deliver::write_events;
 use crate::end::ServeEnd;
 use crate::group::Group;
 use crate::house::House;
 use crate::output::Output;
+use crate::past::write_events;
 use crate::server::{Pace, Server};
 use event_journal::Journal;
 use layer_api::{Broadcast, Service};
@@ -22,6 +22,7 @@ use outside::{Disk, Link, Sink};
 use replica::Replica;
 use ritas_base::{Coin, Event, Mem};
 use std::alloc::Global;
+use std::convert::AsSlice;
 use std::net::Net;
 use std::sync::Wait;
 
@@ -38,9 +39,10 @@ use std::sync::Wait;
 /// It ends as `serve` does, and with `DiskFault` where the disk failed, or with `JournalFull` where the journal would become too long, with its
 /// length then, up to 2^64 - 1: of the events that weren't appended nothing goes out. At these ends, as at a fault of the tape or the link, the
 /// replica stands where all events leave it. Where the link fails, the tape has all events, and the journal those of them that it keeps, unless the
-/// link was asked for an item that was to join a group: then both have exactly those before the group, and nothing of it went out.
+/// link was asked for an item that was to join a group: then both have exactly those before the group, and nothing of it went out. By the disk's count
+/// of faults one call of it failed just where it ends with `DiskFault`, and none at any other end.
 ///
-/// The vector has one replica, as it was made, with the journal's number.
+/// The vector has one replica, as it was made, with the journal's number. `serve_recovered` does the same with events that it may let go.
 pub fn serve_kept<
     R: Net + Wait,
     S: Service,
@@ -72,6 +74,81 @@ pub fn serve_kept<
         (outs_of K.Sink L.Link tape.new link.new) journal.new disk.new)
         result until limit }
 {
+    serve_after(
+        rt, alloc, replicas, recovered, journal, disk, link, tape, limit, until,
+    )
+}
+
+/// Serves one replica again, as `serve_kept` does, and lets the recovered events go once they happened again and are on the tape.
+pub fn serve_recovered<
+    R: Net + Wait,
+    S: Service,
+    E: Broadcast,
+    C: Coin + Drop,
+    L: Link,
+    K: Sink,
+    D: Disk,
+>(
+    rt: &R,
+    alloc: Global,
+    replicas: &mut Vec<Replica<S, E, C>>,
+    recovered: Vec<Event>,
+    journal: &mut Journal,
+    disk: &mut D,
+    link: &mut L,
+    tape: &mut K,
+    limit: u64,
+    until: u32,
+) -> ServeEnd
+    requires live { journal.old.live ≡ true }
+    requires own { AllByRecursion (IsRecord journal.old.me) recovered.items }
+    ensures serves { let m = meaning_of S.Service E.Broadcast C.Coin in
+        (head : List ℕ) (w : Setting) (numbers : List ℕ) → AreHere m w [] numbers replicas.old.items → w.is_correct journal.old.me ≡ true
+        → OpenedAs D.Disk head (reverse recovered.items) journal.old disk.old
+        → ServesAgain m w (reverse recovered.items) numbers replicas.new.items (tells_of K.Sink L.Link)
+        (outs_of K.Sink L.Link tape.old link.old)
+        (journal_moment D.Disk head (reverse recovered.items) journal.old.me disk.old
+        (outs_of K.Sink L.Link tape.new link.new) journal.new disk.new)
+        result until limit }
+{
+    serve_after(
+        rt, alloc, replicas, recovered, journal, disk, link, tape, limit, until,
+    )
+}
+
+// Serves after these events, which are let go once they happened again and are on the tape.
+fn serve_after<
+    R: Net + Wait,
+    S: Service,
+    E: Broadcast,
+    C: Coin + Drop,
+    L: Link,
+    K: Sink,
+    D: Disk,
+    P: AsSlice<Event> + Drop,
+>(
+    rt: &R,
+    alloc: Global,
+    replicas: &mut Vec<Replica<S, E, C>>,
+    recovered: P,
+    journal: &mut Journal,
+    disk: &mut D,
+    link: &mut L,
+    tape: &mut K,
+    limit: u64,
+    until: u32,
+) -> ServeEnd
+    requires live { journal.old.live ≡ true }
+    requires own { AllByRecursion (IsRecord journal.old.me) (P.items recovered) }
+    ensures serves { let m = meaning_of S.Service E.Broadcast C.Coin in
+        (head : List ℕ) (w : Setting) (numbers : List ℕ) → AreHere m w [] numbers replicas.old.items → w.is_correct journal.old.me ≡ true
+        → OpenedAs D.Disk head (reverse (P.items recovered)) journal.old disk.old
+        → ServesAgain m w (reverse (P.items recovered)) numbers replicas.new.items (tells_of K.Sink L.Link)
+        (outs_of K.Sink L.Link tape.old link.old)
+        (journal_moment D.Disk head (reverse (P.items recovered)) journal.old.me disk.old
+        (outs_of K.Sink L.Link tape.new link.new) journal.new disk.new)
+        result until limit }
+{
     let mut house = match House::new(alloc, replicas) {
         Ok(house) => house,
         Err(Mem) => return ServeEnd::Mem,
@@ -90,7 +167,7 @@ pub fn serve_kept<
         },
         group: &mut group,
     };
-    let end = server.serve_again(rt, &mut house, recovered.as_slice());
+    let end = server.serve_again(rt, &mut house, recovered);
     *replicas = house.replicas;
     end
 }
@@ -110,34 +187,37 @@ impl<L: Link, K: Sink, A: Archive<D>, D> Server<'_, '_, '_, '_, '_, L, K, A, D> 
     ghost use Rattle.node_loop.specs.Standing.{HouseStands};
     ghost use Rattle.node_loop.specs.Waiting.{nobody};
 
-    // These events happen again, and the tape takes them; then it serves.
-    fn serve_again<R: Net + Wait, S: Service, E: Broadcast, C: Coin + Drop>(
-        &mut self,
-        rt: &R,
-        house: &mut House<S, E, C>,
-        recovered: &[Event],
-    ) -> ServeEnd
-        requires sized { AllByRecursion IsSized recovered.now }
+    // These events happen again, and the tape takes them; then they are let go, and it serves.
+    fn serve_again<
+        R: Net + Wait,
+        S: Service,
+        E: Broadcast,
+        C: Coin + Drop,
+        P: AsSlice<Event> + Drop,
+    >(&mut self, rt: &R, house: &mut House<S, E, C>, recovered: P) -> ServeEnd
+        requires sized { AllByRecursion IsSized (P.items recovered) }
         requires empty { IsEmpty self.old.group.now }
         ensures same { IsSameServer self.old self.new }
         ensures serves { let t = senses_of S.Service E.Broadcast C.Coin L.Link K.Sink A.Archive in
             (head : List ℕ) (before : D) (w : Setting) (numbers : List ℕ) → HouseStands t.layers w [] numbers house.old nobody no_peers
-            → AllByRecursion (IsServed w) recovered.now → A.stands head before (reverse recovered.now) self.old.archive.now self.old.disk.now []
+            → AllByRecursion (IsServed w) (P.items recovered) → A.stands head before (reverse (P.items recovered)) self.old.archive.now self.old.disk.now []
             → self.old.pace.taken ≡ 0
-            → ServesAgain t.layers w (reverse recovered.now) numbers house.new.replicas.items t.tells
+            → ServesAgain t.layers w (reverse (P.items recovered)) numbers house.new.replicas.items t.tells
             (outs_of K.Sink L.Link self.old.tape.now self.old.link.now)
-            (t.moment head before (reverse recovered.now) self.new)
+            (t.moment head before (reverse (P.items recovered)) self.new)
             result self.new.pace.until self.new.pace.limit }
     {
         let mut output = Output::new(self.alloc);
-        match house.recall_all(self.alloc, recovered, &mut output) {
+        let events = recovered.as_slice();
+        match house.recall_all(self.alloc, events, &mut output) {
             Ok(()) => {}
             Err(Mem) => return ServeEnd::Mem,
         }
-        match write_events(self.tape, recovered) {
+        match write_events(self.alloc, self.tape, events) {
             Ok(()) => {}
             Err(_) => return ServeEnd::TapeFault,
         }
+        drop(recovered);
         self.go_on(rt, house)
     }
 }

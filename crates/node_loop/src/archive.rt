@@ -85,8 +85,10 @@ impl<D: Disk> Archive<D> for Journal {
             Ok(()) => Ok(()),
             Err(JournalFault::Disk) => Err(ArchiveFault::Disk),
             Err(JournalFault::Full(size)) => Err(ArchiveFault::Full(size)),
-            // It answers no other but want of memory.
-            Err(_) => Err(ArchiveFault::Mem),
+            Err(JournalFault::Mem) => Err(ArchiveFault::Mem),
+            // It answers no other.
+            Err(JournalFault::Foreign(_)) => Err(ArchiveFault::Mem),
+            Err(JournalFault::Broken(_)) => Err(ArchiveFault::Mem),
         }
     }
 }

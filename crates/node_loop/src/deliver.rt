@@ -1,11 +1,9 @@
 //! What a tape and a link are given.
-ghost use Rattle.std.specs.Prelude.{◌≡◌, ℕ, ◌<◌, ◌≤◌, ◌++◌, ◌∷◌, List, length, map, reverse, true, [], All, IfSome, IfErr, OnOk, OnErr, MatchOption};
+ghost use Rattle.std.specs.Prelude.{◌≡◌, ℕ, ◌<◌, ◌≤◌, ◌++◌, ◌∷◌, List, length, map, [], All, IfSome, IfErr, OnOk, MatchOption};
 ghost use Rattle.std.specs.List.{AllByRecursion};
 ghost use Rattle.ritas_base.specs.declared.event.Event.{Event};
-ghost use Rattle.outside.specs.Faults.{count_after};
 ghost use Rattle.outside.specs.LinkCalls.{each_act};
 ghost use Rattle.outside.specs.Links.{LinkAct, Replies};
-ghost use Rattle.outside.specs.Writing.{TookFront};
 ghost use Rattle.keyed_channel.specs.Lengths.{head_length};
 ghost use Rattle.link_resume.specs.Lists.{kept_for};
 ghost use Rattle.schedule_file.specs.Spelling.{IsSized};
@@ -31,10 +29,9 @@ use crate::peers::keep;
 use crate::server::Server;
 use layer_api::{Broadcast, Service};
 use link_resume::Resume;
-use outside::{Failed, Link, LinkFault, Sink, write_all};
+use outside::{Link, LinkFault, Sink, write_all};
 use replica::OutFrame;
 use ritas_base::{Coin, Event, Mem};
-use schedule_file::Writer;
 use std::alloc::Global;
 use std::net::Net;
 use std::sync::Wait;
@@ -224,20 +221,6 @@ fn reply_all<R: Net + Wait, L: Link>(
 {
     for given in replies {
         link.reply(rt, alloc, at, given.conn, given.bytes.as_slice())?;
-    }
-    Ok(())
-}
-
-/// Writes these events to the tape, the oldest first.
-pub(crate) fn write_events<K: Sink>(tape: &mut K, events: &[Event]) -> Result<(), Failed>
-    requires sized { AllByRecursion IsSized events.now }
-    ensures whole { OnOk result ((K.faults tape.new ≡ K.faults tape.old)
-        × (K.tells ≡ true → K.taken tape.new ≡ K.taken tape.old ++ events_text (reverse events.now))) }
-    ensures front { OnErr result ((K.faults tape.new ≡ count_after (K.faults tape.old)) × (K.faults tape.old ≤ K.faults tape.new)
-        × (K.tells ≡ true → TookFront (K.taken tape.old) (K.taken tape.new) (events_text (reverse events.now)))) }
-{
-    for event in events {
-        Writer::event(tape, event)?;
     }
     Ok(())
 }

@@ -10,8 +10,8 @@ use ritas_base::{Event, Mem};
 use schedule_file::Writer;
 use std::alloc::Global;
 
-/// A group with so many bytes of text takes no further round.
-const ENOUGH_BYTES: usize = 65_536;
+/// A group with so many bytes of text takes no further round, and a piece of a text goes out.
+pub(crate) const ENOUGH_BYTES: usize = 65_536;
 
 /// What came of a few rounds, of which nothing was delivered yet.
 #[derive(Drop)]

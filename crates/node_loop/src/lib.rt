@@ -20,6 +20,7 @@ mod house;
 mod index;
 mod laws;
 mod output;
+mod past;
 mod peers;
 mod recall;
 mod refusals;
@@ -27,7 +28,7 @@ mod rounds;
 mod server;
 mod waiting;
 
-pub use again::serve_kept;
+pub use again::{serve_kept, serve_recovered};
 pub use archive::ArchiveFault;
 pub use end::ServeEnd;
 pub use laws::{

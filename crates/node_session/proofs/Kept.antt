@@ -1,9 +1,9 @@
 -- What a journal stands for, as what the disk has since before it was opened.
-use Rattle.std.proofs.Common.{◌≡◌, ℕ, ◌+◌, ◌-◌, ◌^◌, ◌≤◌, min, Bool, true, List, ◌++◌, length, ◌∙◌, ap, subst, arith, inl, inr}
+use Rattle.std.proofs.Common.{◌≡◌, ℕ, ◌+◌, ◌-◌, ◌^◌, min, Bool, true, List, ◌++◌, length, ◌∙◌, ap, subst, arith, inl, inr}
 use Rattle.ritas_base.specs.declared.event.Event.{Event}
 use Rattle.outside.specs.Disks.{DiskState, LeavesOnly, disk_state_of}
 use Rattle.outside.specs.DisksLaws.{leaves_then, leaves_weaker}
-use Rattle.outside.specs.Faults.{Rose}
+use Rattle.outside.specs.Faults.{count_after}
 use Rattle.event_journal.specs.Appending.{AllOpen, JournalState}
 use Rattle.event_journal.specs.Journal.{OpensAs, records}
 use Rattle.cluster_config.specs.declared.node.NodeConfig.{NodeConfig}
@@ -19,13 +19,8 @@ use Rattle.node_loop.specs.declared.archive.ArchiveFault.{ArchiveFault}
 use Rattle.node_loop.specs.Journals.{HasKept, IsFull, JournalStands, JournalFails, OpensNewest, OpensSome}
 use Rattle.node_session.specs.Lives.{DiskBreaks, DiskKeeps, DiskSeen, IsOfLife, IsJournalTooLong, ServesLife, ServesNode, head_in}
 
--- the count rose
-rose_then : (few some many : ℕ) → few ≤ some → Rose some many → Rose few many
-rose_then few some many le (inl less) = inl (omega (arith, le, less))
-rose_then few some many le (inr last) = inr last
-
 module _ (me : ℕ) (head : List ℕ) (past : List Event) (tells : Bool) (old mid new : List DiskState) (few some many : ℕ) (journal : JournalState) (own : journal.me ≡ me)
-    (opened : tells ≡ true → LeavesOnly (OpensAsKept me head (disk_state_of old)) old mid) (first : few ≤ some) where
+    (opened : tells ≡ true → LeavesOnly (OpensAsKept me head (disk_state_of old)) old mid) (first : some ≡ few) where
   abbrev seen : DiskSeen
   seen = record { tells = tells; before = old; now = new; few = few; many = many }
 
@@ -41,7 +36,7 @@ module _ (me : ℕ) (head : List ℕ) (past : List Event) (tells : Bool) (old mi
   keeps given stands = record {
     images = λ t. subst (λ (i : ℕ). AllOpen i head (given ++ past) (disk_state_of new)) own (stands.kept t).images;
     since = λ t. since_all given t (stands.kept t).since;
-    later = omega (arith, first, stands.later);
+    none_failed = stands.none_failed ∙ first;
   }
 
   too_long : (group older : List Event) (x : ℕ) → IsFull head past group older journal tells mid new x → IsJournalTooLong me head past seen group older x
@@ -57,14 +52,15 @@ module _ (me : ℕ) (head : List ℕ) (past : List Event) (tells : Bool) (old mi
     left = λ t. subst (λ (i : ℕ). OpensNewest i head past group older (disk_state_of new)) own (fails.left t);
     since = λ t. since_all (group ++ older) t (fails.since t);
     later = omega (arith, first, fails.later);
-    disk = λ is. rose_then few some many first (fails.disk is);
+    one_failed = λ is. fails.one_failed is ∙ ap count_after first;
+    none_failed = λ other. fails.none_failed other ∙ first;
     full = λ x is. too_long group older x (fails.full x is);
   }
 
 -- ---- a node's life
 
 module _ (config : NodeConfig) (head : List ℕ) (named : head ≡ head_in config) (past : List Event) (tells : Bool) (old mid new : List DiskState) (few some many : ℕ)
-    (opened later : JournalState) (own : opened.me ≡ config.me) (since : tells ≡ true → LeavesOnly (OpensAsKept config.me head (disk_state_of old)) old mid) (first : few ≤ some) where
+    (opened later : JournalState) (own : opened.me ≡ config.me) (since : tells ≡ true → LeavesOnly (OpensAsKept config.me head (disk_state_of old)) old mid) (first : some ≡ few) where
   abbrev node_disk : DiskSeen
   node_disk = record { tells = tells; before = old; now = new; few = few; many = many }
 

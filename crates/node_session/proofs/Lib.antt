@@ -3,6 +3,7 @@ pub mod Ending
 pub mod Unopened
 pub mod Lives
 pub mod Kept
+pub mod Counted
 pub mod Sessions
 pub mod Here
 pub mod Headings

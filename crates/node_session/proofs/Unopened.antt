@@ -1,8 +1,8 @@
 -- Why a journal couldn't be opened.
-use Rattle.std.proofs.Common.{◌≡◌, ℕ, ◌+◌, ◌<◌, ◌^◌, ◌==◌, true, List, length, Result, Err, ap, subst}
+use Rattle.std.proofs.Common.{◌≡◌, ℕ, ◌+◌, ◌<◌, ◌≤◌, ◌^◌, ◌==◌, true, List, length, Result, Err, sym, ap, ◌∙◌, subst}
 use Rattle.std.proofs.lemmas.Nat.Bits.{bit_at-pow_same}
 use Rattle.outside.specs.Disks.{LeavesOnly, disk_state_of}
-use Rattle.outside.specs.Faults.{HasCause}
+use Rattle.outside.specs.Faults.{CountsFault}
 use Rattle.ritas_base.specs.Members.{has_member}
 use Rattle.schedule_file.specs.FileBytes.{limit}
 use Rattle.cluster_config.specs.declared.node.NodeConfig.{NodeConfig}
@@ -17,18 +17,19 @@ pub unopened : {A : Type 0} (config : NodeConfig) (head : List ℕ) (d : DiskSee
     → (d.tells ≡ true → (p : ℕ) → result ≡ Err (faults.Foreign p) → IsForeign head (disk_state_of d.before).seen p)
     → (d.tells ≡ true → (p : ℕ) → result ≡ Err (faults.Broken p) → IsBroken config.me head (disk_state_of d.before).seen p)
     → ((x : ℕ) → result ≡ Err (faults.Full x) → (x ≡ limit + 1) × (d.tells ≡ true → limit < length (disk_state_of d.before).seen))
-    → HasCause d.few d.many (result ≡ Err faults.Disk) → Unopened config d fault
-unopened config head d result fault is named since foreign broken full cause = record {
+    → d.few ≤ d.many → CountsFault d.few d.many result (result ≡ Err faults.Disk) → Unopened config d fault
+unopened config head d result fault is named since foreign broken full later counts = record {
   cause = by_fault fault is;
   since = λ t. subst (λ (h : List ℕ). LeavesOnly (OpensAsKept config.me h (disk_state_of d.before)) d.before d.now) named (since t);
-  later = cause.later;
+  later = later;
+  none_failed = λ other. counts.others (λ failed. let same : Err fault ≡ Err faults.Disk = sym is ∙ failed in other (cc same));
 }
   where
     by_fault : (e : JournalFault) → result ≡ Err e → IsFaultOf config.me (head_in config) d e
     by_fault (faults.Foreign p) same = λ t. subst (λ (h : List ℕ). IsForeign h (disk_state_of d.before).seen p) named (foreign t p same)
     by_fault (faults.Broken p) same = λ t. subst (λ (h : List ℕ). IsBroken config.me h (disk_state_of d.before).seen p) named (broken t p same)
     by_fault (faults.Full x) same = full x same
-    by_fault faults.Disk same = cause.cause same
+    by_fault faults.Disk same = counts.rises same
     by_fault faults.Mem same = tt
 
 -- a replica is the one of its own mask

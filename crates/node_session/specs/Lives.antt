@@ -1,9 +1,9 @@
 -- A session whose replica has a journal: a life of it, which begins with the events that the journal kept in those before. Lists of events and of
 -- the link's calls have the newest first.
-use Rattle.std.specs.Prelude.{◌≡◌, ◌⊎◌, ℕ, ◌+◌, ◌-◌, ◌^◌, ◌<◌, ◌≤◌, min, Bool, true, List, [], ◌∷◌, ◌++◌, length}
+use Rattle.std.specs.Prelude.{◌≡◌, ◌≢◌, ◌⊎◌, ℕ, ◌+◌, ◌-◌, ◌^◌, ◌<◌, ◌≤◌, min, Bool, true, List, [], ◌∷◌, ◌++◌, length, Result, Ok, Err}
 use Rattle.ritas_base.specs.declared.event.Event.{Event}
 use Rattle.outside.specs.Disks.{DiskState, LeavesOnly, disk_state_of}
-use Rattle.outside.specs.Faults.{Rose}
+use Rattle.outside.specs.Faults.{count_after}
 use Rattle.outside.specs.Links.{LinkAct, Starts}
 use Rattle.outside.specs.Writing.{TookFront}
 use Rattle.outside.specs.declared.disk.Disk.{Ghosts as DiskGhosts}
@@ -61,23 +61,26 @@ disk_seen storage old new = record {
 abbrev pub IsOfLife : ℕ → List ℕ → List Event → List Event → DiskState → List ℕ → Type 0
 IsOfLife me head past given s image = OpensAsKept me head s image ⊎ OpensSome me head past given image
 
--- every image opens now as the past and the given events, and at each moment as the past ones and the first of the given, or as one from before
+-- every image opens now as the past and the given events, and at each moment as the past ones and the first of the given, or as one from before; and no
+-- call of the disk failed
 pub record DiskKeeps (me : ℕ) (head : List ℕ) (past : List Event) (d : DiskSeen) (given : List Event) : Type 0 where
   pub images : d.tells ≡ true → AllOpen me head (given ++ past) (disk_state_of d.now)
   pub since : d.tells ≡ true → LeavesOnly (IsOfLife me head past given (disk_state_of d.before)) d.before d.now
-  pub later : d.few ≤ d.many
+  pub none_failed : d.many ≡ d.few
 
 -- with the newest group of events the file would be so long, up to 2^64 - 1, which is too long: every image opens as the others
 abbrev pub IsJournalTooLong : ℕ → List ℕ → List Event → DiskSeen → List Event → List Event → ℕ → Type 0
 IsJournalTooLong me head past d group older x = (limit < x)
     × (d.tells ≡ true → (x ≡ min (length (closed_front head (older ++ past)) + 1 + length (records group)) (2 ^ 64 - 1)) × AllOpen me head (older ++ past) (disk_state_of d.now))
 
--- The newest group of the given events couldn't be kept: every image opens as the others, with all of it or with none.
+-- The newest group of the given events couldn't be kept: every image opens as the others, with all of it or with none. One call of the disk failed where
+-- that was the cause, and else none.
 pub record DiskBreaks (me : ℕ) (head : List ℕ) (past : List Event) (d : DiskSeen) (fault : ArchiveFault) (group older : List Event) : Type 0 where
   pub left : d.tells ≡ true → OpensNewest me head past group older (disk_state_of d.now)
   pub since : d.tells ≡ true → LeavesOnly (IsOfLife me head past (group ++ older) (disk_state_of d.before)) d.before d.now
   pub later : d.few ≤ d.many
-  pub disk : fault ≡ archive.Disk → Rose d.few d.many
+  pub one_failed : fault ≡ archive.Disk → d.many ≡ count_after d.few
+  pub none_failed : fault ≢ archive.Disk → d.many ≡ d.few
   pub full : (x : ℕ) → fault ≡ archive.Full x → IsJournalTooLong me head past d group older x
 
 -- ---- the ends
@@ -158,16 +161,24 @@ pub record ServesNode (config : NodeConfig) (tells : Tells) (base now : Outs) (d
   pub life : ServesLife (node_session config) past (setting_of (node_header config)) tells base
       (moment now (DiskKeeps config.me (head_in config) past d) (DiskBreaks config.me (head_in config) past d)) end
 
--- the journal's fault is that of the disk's file, or its count rose
+-- the journal's fault is that of the disk's file, or one call of the disk failed
 abbrev pub IsFaultOf : ℕ → List ℕ → DiskSeen → JournalFault → Type 0
 IsFaultOf me head d (journal_faults.Foreign p) = d.tells ≡ true → IsForeign head (disk_state_of d.before).seen p
 IsFaultOf me head d (journal_faults.Broken p) = d.tells ≡ true → IsBroken me head (disk_state_of d.before).seen p
 IsFaultOf me head d (journal_faults.Full x) = (x ≡ limit + 1) × (d.tells ≡ true → limit < length (disk_state_of d.before).seen)
-IsFaultOf me head d journal_faults.Disk = Rose d.few d.many
+IsFaultOf me head d journal_faults.Disk = d.many ≡ count_after d.few
 IsFaultOf me head d journal_faults.Mem = Unit {0}
 
--- The journal couldn't be opened, or memory ran out: every image is one from before, or opens as one of these.
+-- The journal couldn't be opened, or memory ran out: every image is one from before, or opens as one of these. No call of the disk failed, unless that
+-- was the cause.
 pub record Unopened (config : NodeConfig) (d : DiskSeen) (fault : JournalFault) : Type 0 where
   pub cause : IsFaultOf config.me (head_in config) d fault
   pub since : d.tells ≡ true → LeavesOnly (OpensAsKept config.me (head_in config) (disk_state_of d.before)) d.before d.now
   pub later : d.few ≤ d.many
+  pub none_failed : fault ≢ journal_faults.Disk → d.many ≡ d.few
+
+-- ---- the cause
+
+-- the disk failed while the journal was opened or kept
+abbrev pub HasDiskFailed : Result ServeEnd JournalFault → Type 0
+HasDiskFailed result = (result ≡ Ok ends.DiskFault) ⊎ (result ≡ Err journal_faults.Disk)

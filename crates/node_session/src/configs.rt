@@ -1,12 +1,13 @@
 //! Sessions that configurations describe.
 ghost use Rattle.std.specs.Prelude.{◌≡◌, ◌<◌, [], true, false, map, IfOk, IfErr, OnErr};
 ghost use Rattle.schedule_replay.specs.Layers.{setting_of};
+ghost use Rattle.schedule_replay.specs.Replay.{CountsIf};
 ghost use Rattle.cluster_config.specs.Cluster.{cluster_text};
 ghost use Rattle.cluster_config.specs.Node.{node_text};
 ghost use Rattle.cluster_config.specs.Ranges.{FitsNode, FitsCluster};
 ghost use Rattle.node_loop.specs.Outs.{outs_of, tells_of};
 ghost use Rattle.node_session.specs.Configs.{node_header, node_session, cluster_header, cluster_session, first_item};
-ghost use Rattle.node_session.specs.Lives.{ServesNode, Unopened, disk_seen};
+ghost use Rattle.node_session.specs.Lives.{HasDiskFailed, ServesNode, Unopened, disk_seen};
 ghost use Rattle.node_session.specs.Session.{ServesSession};
 
 use crate::life::{Life, serve_life};
@@ -116,6 +117,7 @@ fn serve_journal<R: Net + Wait, L: Link, K: Sink, D: Disk>(
         (disk_seen D.Disk disk.old disk.new) end) }
     ensures unserved { IfErr result (λ fault. Unopened config (disk_seen D.Disk disk.old disk.new) fault
         × (output.new ≡ output.old) × (link.new ≡ link.old)) }
+    ensures disk_counts { CountsIf (D.faults disk.old) (D.faults disk.new) (HasDiskFailed result) }
 {
     let head = journal_head(
         config.session,
@@ -128,17 +130,17 @@ fn serve_journal<R: Net + Wait, L: Link, K: Sink, D: Disk>(
     let (journal, recovered) = open_journal(alloc, disk, config.me, &head)?;
     let mut life = Life {
         session: session_of(config),
-        recovered,
         journal,
     };
-    Ok(serve_life(rt, alloc, &mut life, link, output, disk)?)
+    Ok(serve_life(rt, alloc, &mut life, recovered, link, output, disk)?)
 }
 
 /// Serves the replica of a configuration, as `serve_session` does: its file names that one alone as correct, and has its keys.
 ///
 /// Where the configuration says so, the replica has a journal on the disk: it is opened before anything is written, or made where there is none,
 /// and what it kept happens again before the link's items are taken (`node_loop::serve_kept`). Where it can't be opened, its fault is the error.
-/// Otherwise the disk isn't touched, and the one error is want of memory. At an error nothing is written, and the link isn't started.
+/// Otherwise the disk isn't touched, and the one error is want of memory. At an error nothing is written, and the link isn't started. One call of the
+/// disk failed where it ends with `DiskFault`, or where that is the journal's fault, and else none.
 pub fn serve_node<R: Net + Wait, L: Link, K: Sink, D: Disk>(
     rt: &R,
     alloc: Global,
@@ -156,6 +158,7 @@ pub fn serve_node<R: Net + Wait, L: Link, K: Sink, D: Disk>(
         (disk_seen D.Disk disk.old disk.new) end) }
     ensures unopened { config.journal ≡ true → IfErr result (λ fault. Unopened config (disk_seen D.Disk disk.old disk.new) fault) }
     ensures unserved { OnErr result ((output.new ≡ output.old) × (link.new ≡ link.old)) }
+    ensures disk_counts { CountsIf (D.faults disk.old) (D.faults disk.new) (HasDiskFailed result) }
 {
     if config.journal {
         return serve_journal(rt, alloc, config, link, output, disk);

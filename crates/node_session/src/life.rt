@@ -21,7 +21,7 @@ use layer_api::{Broadcast, Service};
 use multivalued::Mvc;
 use node_loop::{
     ServeEnd, acks_are_earned, acts_are_deeds, events_fit, frames_are_made, recalled_are_sent,
-    replies_are_true, resends_are_open, serve_kept,
+    replies_are_true, resends_are_open, serve_recovered,
 };
 use outside::{Disk, Link, Sink};
 use reliable_bcast::{DigestRb, Rb};
@@ -38,9 +38,7 @@ use world_model::agreement;
 pub(crate) struct Life {
     /// What it is served with.
     pub(crate) session: Session,
-    /// The events that the journal kept of the lives before, the oldest first.
-    pub(crate) recovered: Vec<Event>,
-    /// The journal, which keeps those of this one too.
+    /// The journal, which keeps the events of this one too.
     pub(crate) journal: Journal,
 }
 
@@ -49,6 +47,7 @@ fn live_as<R: Net + Wait, S: Service, E: Broadcast, L: Link, K: Sink, D: Disk>(
     rt: &R,
     alloc: Global,
     life: &mut Life,
+    recovered: Vec<Event>,
     link: &mut L,
     output: &mut K,
     disk: &mut D,
@@ -57,12 +56,12 @@ fn live_as<R: Net + Wait, S: Service, E: Broadcast, L: Link, K: Sink, D: Disk>(
     requires serves { S.rules.serves life.old.session.header.mode.root ≡ true }
     requires form { E.FORM ≡ other_form life.old.session.header.mode }
     requires live { life.old.journal.live ≡ true }
-    requires own { AllByRecursion (IsRecord life.old.journal.me) life.old.recovered.items }
+    requires own { AllByRecursion (IsRecord life.old.journal.me) recovered.items }
     requires member { has_member life.old.session.header.correct life.old.journal.me ≡ true }
-    ensures served { (head : List ℕ) → OpenedAs D.Disk head (reverse life.old.recovered.items) life.old.journal disk.old
-        → IfOk result (λ end. ServesLife life.old.session (reverse life.old.recovered.items) (setting_by S.rules E.rules life.old.session.header) (tells_of K.Sink L.Link)
+    ensures served { (head : List ℕ) → OpenedAs D.Disk head (reverse recovered.items) life.old.journal disk.old
+        → IfOk result (λ end. ServesLife life.old.session (reverse recovered.items) (setting_by S.rules E.rules life.old.session.header) (tells_of K.Sink L.Link)
         (outs_of K.Sink L.Link output.old link.old)
-        (journal_moment D.Disk head (reverse life.old.recovered.items) life.old.journal.me disk.old (outs_of K.Sink L.Link output.new link.new) life.new.journal disk.new) end) }
+        (journal_moment D.Disk head (reverse recovered.items) life.old.journal.me disk.old (outs_of K.Sink L.Link output.new link.new) life.new.journal disk.new) end) }
     ensures unserved { OnErr result ((output.new ≡ output.old) × (link.new ≡ link.old) × (disk.new ≡ disk.old)) }
 {
     events_fit();
@@ -85,11 +84,11 @@ fn live_as<R: Net + Wait, S: Service, E: Broadcast, L: Link, K: Sink, D: Disk>(
         Ok(()) => {}
         Err(end) => return Ok(end),
     }
-    let end = serve_kept(
+    let end = serve_recovered(
         rt,
         alloc,
         &mut replicas,
-        &life.recovered,
+        recovered,
         &mut life.journal,
         disk,
         link,
@@ -100,7 +99,8 @@ fn live_as<R: Net + Wait, S: Service, E: Broadcast, L: Link, K: Sink, D: Disk>(
     Ok(close(output, end))
 }
 
-/// Serves a life of a replica, as `serve_session` does one without a journal.
+/// Serves a life of a replica, after the events that its journal kept of the lives before, the oldest first, as `serve_session` does one without a
+/// journal.
 ///
 /// The output takes the header, the events that were kept, and then each event before the frames that it makes are sent
 /// (`node_loop::serve_kept`). The one error is want of memory for the replica: then nothing is written, and neither the link nor the disk is
@@ -109,26 +109,29 @@ pub(crate) fn serve_life<R: Net + Wait, L: Link, K: Sink, D: Disk>(
     rt: &R,
     alloc: Global,
     life: &mut Life,
+    recovered: Vec<Event>,
     link: &mut L,
     output: &mut K,
     disk: &mut D,
 ) -> Result<ServeEnd, Mem>
     requires servable { IsServable life.old.session [] }
     requires live { life.old.journal.live ≡ true }
-    requires own { AllByRecursion (IsRecord life.old.journal.me) life.old.recovered.items }
+    requires own { AllByRecursion (IsRecord life.old.journal.me) recovered.items }
     requires member { has_member life.old.session.header.correct life.old.journal.me ≡ true }
-    ensures served { (head : List ℕ) → OpenedAs D.Disk head (reverse life.old.recovered.items) life.old.journal disk.old
-        → IfOk result (λ end. ServesLife life.old.session (reverse life.old.recovered.items) (setting_of life.old.session.header) (tells_of K.Sink L.Link)
+    ensures served { (head : List ℕ) → OpenedAs D.Disk head (reverse recovered.items) life.old.journal disk.old
+        → IfOk result (λ end. ServesLife life.old.session (reverse recovered.items) (setting_of life.old.session.header) (tells_of K.Sink L.Link)
         (outs_of K.Sink L.Link output.old link.old)
-        (journal_moment D.Disk head (reverse life.old.recovered.items) life.old.journal.me disk.old (outs_of K.Sink L.Link output.new link.new) life.new.journal disk.new) end) }
+        (journal_moment D.Disk head (reverse recovered.items) life.old.journal.me disk.old (outs_of K.Sink L.Link output.new link.new) life.new.journal disk.new) end) }
     ensures unserved { OnErr result ((output.new ≡ output.old) × (link.new ≡ link.old) × (disk.new ≡ disk.old)) }
 {
     let form = other_form(&life.session.header.mode);
     if form == 2 {
-        live_as::<R, Abc<Vc<Mvc<Bin>>>, Eb, L, K, D>(rt, alloc, life, link, output, disk)
+        live_as::<R, Abc<Vc<Mvc<Bin>>>, Eb, L, K, D>(rt, alloc, life, recovered, link, output, disk)
     } else if form == 3 {
-        live_as::<R, Abc<Vc<Mvc<Bin>>>, DigestRb, L, K, D>(rt, alloc, life, link, output, disk)
+        live_as::<R, Abc<Vc<Mvc<Bin>>>, DigestRb, L, K, D>(
+            rt, alloc, life, recovered, link, output, disk,
+        )
     } else {
-        live_as::<R, Abc<Vc<Mvc<Bin>>>, Rb, L, K, D>(rt, alloc, life, link, output, disk)
+        live_as::<R, Abc<Vc<Mvc<Bin>>>, Rb, L, K, D>(rt, alloc, life, recovered, link, output, disk)
     }
 }

@@ -1,6 +1,5 @@
 -- What the status of a node with a journal says.
-use Rattle.std.proofs.Common.{◌≡◌, ◌≢◌, ℕ, Bool, true, false, List, [], ◌∷◌, refl, sym, ◌∙◌, inl, inr, subst, arith}
-use Rattle.outside.specs.Faults.{HasCause}
+use Rattle.std.proofs.Common.{◌≡◌, ◌≢◌, ◌↔◌, ℕ, Bool, true, false, List, [], ◌∷◌, Ok, Err, refl, sym, ap, ◌∙◌, inl, inr, subst, arith}
 use Rattle.outside.specs.Links.{LinkAct, Gives}
 use Rattle.outside.specs.declared.link.LinkItem.{LinkItem}
 use Rattle.outside.specs.declared.link.LinkItem.TheVariants as items
@@ -16,14 +15,14 @@ use Rattle.event_journal.specs.declared.fault.JournalFault.{JournalFault}
 use Rattle.event_journal.specs.declared.fault.JournalFault.TheVariants as journal_faults
 use Rattle.node_loop.specs.declared.end.ServeEnd.{ServeEnd}
 use Rattle.node_loop.specs.declared.end.ServeEnd.TheVariants as ends
-use Rattle.node_loop.specs.Archives.{Reach, moment}
+use Rattle.node_loop.specs.Archives.{moment}
 use Rattle.node_loop.specs.Deeds.{Came}
 use Rattle.node_loop.specs.Outs.{Outs, Tells}
 use Rattle.node_loop.specs.Recovering.{recovered, recalled_deeds}
 use Rattle.node_loop.specs.Serving.{Serving, Want, so_far}
 use Rattle.node_loop.specs.Told.{after_groups, told_from, deeds_from}
 use Rattle.node_session.specs.Configs.{node_header, node_session}
-use Rattle.node_session.specs.Lives.{DiskBreaks, DiskKeeps, DiskSeen, IsFaultOf, LifeEnds, LifeKept, ServesLife, ServesNode, Unopened, head_in}
+use Rattle.node_session.specs.Lives.{DiskBreaks, DiskKeeps, DiskSeen, HasDiskFailed, LifeEnds, ServesLife, ServesNode, Unopened, head_in}
 use Rattle.node_session.specs.Session.{ServesSession}
 use Rattle.ritas.specs.Configs.{AnswersBoth, RunsNode, Idle, Refused, Lived, Served, Unserved, AnswersSession, HasLived, IsIdle, RefusesJournal}
 use Rattle.ritas.specs.Run.{IsOwnStatus, LinkCounts, Replies, Runs}
@@ -76,20 +75,37 @@ node_runs faults old new config tells base now d end before later serves =
 
 -- ---- the counts of the disk
 
-kept_counts : (me : ℕ) (head : List ℕ) (past : List Event) (outs : Outs) (d : DiskSeen) (far : Reach) (kept group older : List Event) (end : ServeEnd)
-    → LifeKept (moment outs (DiskKeeps me head past d) (DiskBreaks me head past d)) far kept group older end → HasCause d.few d.many (end_status end ≡ 9)
-kept_counts me head past outs d far kept group older ends.Done held = record { later = held.later; cause = λ e. absurd (omega (arith, e)) }
-kept_counts me head past outs d far kept group older ends.Limit held = record { later = held.later; cause = λ e. absurd (omega (arith, e)) }
-kept_counts me head past outs d far kept group older ends.End held = record { later = held.later; cause = λ e. absurd (omega (arith, e)) }
-kept_counts me head past outs d far kept group older ends.LinkFault (inl held) = record { later = held.1.later; cause = λ e. absurd (omega (arith, e)) }
-kept_counts me head past outs d far kept group older ends.LinkFault (inr held) = record { later = held.1.later; cause = λ e. absurd (omega (arith, e)) }
-kept_counts me head past outs d far kept group older ends.TapeFault (inl held) = record { later = held.later; cause = λ e. absurd (omega (arith, e)) }
-kept_counts me head past outs d far kept group older ends.TapeFault (inr held) = record { later = held.1.later; cause = λ e. absurd (omega (arith, e)) }
-kept_counts me head past outs d far kept group older ends.Mem (inl (written, inl held)) = record { later = held.later; cause = λ e. absurd (omega (arith, e)) }
-kept_counts me head past outs d far kept group older ends.Mem (inl (written, inr held)) = record { later = held.1.later; cause = λ e. absurd (omega (arith, e)) }
-kept_counts me head past outs d far kept group older ends.Mem (inr held) = record { later = held.1.later; cause = λ e. absurd (omega (arith, e)) }
-kept_counts me head past outs d far kept group older ends.DiskFault held = record { later = held.later; cause = λ e. held.disk refl }
-kept_counts me head past outs d far kept group older (ends.JournalFull x) held = record { later = held.later; cause = λ e. absurd (omega (arith, e)) }
+nine_is : (end : ServeEnd) → end_status end ≡ 9 → end ≡ ends.DiskFault
+nine_is ends.Done e = absurd (omega (arith, e))
+nine_is ends.Limit e = absurd (omega (arith, e))
+nine_is ends.End e = absurd (omega (arith, e))
+nine_is ends.LinkFault e = absurd (omega (arith, e))
+nine_is ends.TapeFault e = absurd (omega (arith, e))
+nine_is ends.Mem e = absurd (omega (arith, e))
+nine_is ends.DiskFault e = refl
+nine_is (ends.JournalFull x) e = absurd (omega (arith, e))
+
+-- the disk failed just at 9, where it was served
+pub served_count : (few many : ℕ) (end : ServeEnd) → CountsIf few many (HasDiskFailed (Ok end)) → CountsIf few many (end_status end ≡ 9)
+served_count few many end counts = record {
+  rises = λ e. counts.rises (inl (ap Ok (nine_is end e)));
+  stands = λ not. counts.stands (λ failed. not (by failed));
+}
+  where
+    by : HasDiskFailed (Ok end) → end_status end ≡ 9
+    by (inl is) = let same : end ≡ ends.DiskFault = cc is in ap end_status same
+    by (inr is) = absurd (cc is)
+
+-- and where its journal couldn't be opened
+pub refused_count : (few many status : ℕ) (fault : JournalFault) → (status ≡ 9) ↔ (fault ≡ journal_faults.Disk) → CountsIf few many (HasDiskFailed (Err fault)) → CountsIf few many (status ≡ 9)
+refused_count few many status fault nine counts = record {
+  rises = λ e. counts.rises (inr (ap Err (nine.0 e)));
+  stands = λ not. counts.stands (λ failed. not (by failed));
+}
+  where
+    by : HasDiskFailed (Err fault) → status ≡ 9
+    by (inl is) = absurd (cc is)
+    by (inr is) = nine.1 (cc is)
 
 pub no_disk : (session : Session) (first : List LinkItem) (w : Setting) (tells : Tells) (base now : Outs) (end : ServeEnd) → ServesSession session first w tells base now end → end_status end ≢ 9
 no_disk session first w tells base now ends.Done serves e = omega (arith, e)
@@ -137,31 +153,6 @@ both_run faults old new config tells base now d end before later without with_it
     by_journal : (b : Bool) → config.journal ≡ b → Runs faults old new base.link_faults now.link_faults (end_status end)
     by_journal true kept = node_runs faults old new config tells base now d end before later (with_it kept)
     by_journal false none = session_runs faults old new (node_session config) [] (setting_of (node_header config)) tells base now end before later (without none)
-
-pub both_count : (config : NodeConfig) (tells : Tells) (base now : Outs) (d : DiskSeen) (end : ServeEnd)
-    → (config.journal ≡ false → ServesSession (node_session config) [] (setting_of (node_header config)) tells base now end)
-    → (config.journal ≡ false → d.many ≡ d.few) → (config.journal ≡ true → ServesNode config tells base now d end) → HasCause d.few d.many (end_status end ≡ 9)
-both_count config tells base now d end without same with_it = by_journal config.journal refl
-  where
-    by_journal : (b : Bool) → config.journal ≡ b → HasCause d.few d.many (end_status end ≡ 9)
-    by_journal true kept =
-        let serves = with_it kept in
-        kept_counts config.me (head_in config) serves.past now d _ _ _ _ end serves.life.kept
-    by_journal false none = record { later = omega (arith, same none); cause = λ e. absurd (no_disk _ [] _ tells base now end (without none) e) }
-
-pub refused_count : (config : NodeConfig) (d : DiskSeen) (fault : JournalFault) (status : ℕ) → (status ≡ 9 → fault ≡ journal_faults.Disk)
-    → (config.journal ≡ false → d.many ≡ d.few) → (config.journal ≡ false → fault ≡ journal_faults.Mem) → (config.journal ≡ true → Unopened config d fault)
-    → HasCause d.few d.many (status ≡ 9)
-refused_count config d fault status nine same short unopened = by_journal config.journal refl
-  where
-    by_journal : (b : Bool) → config.journal ≡ b → HasCause d.few d.many (status ≡ 9)
-    by_journal true kept =
-        let u = unopened kept in
-        record { later = u.later; cause = λ e. subst (λ (f : JournalFault). IsFaultOf config.me (head_in config) d f) (nine e) u.cause }
-    by_journal false none = record {
-      later = omega (arith, same none);
-      cause = λ e. let wrong : journal_faults.Disk ≡ journal_faults.Mem = sym (nine e) ∙ short none in absurd (cc wrong);
-    }
 
 -- ---- at 0
 

@@ -2,7 +2,6 @@
 ghost use Rattle.std.specs.Prelude.{◌≡◌, ◌≢◌, ◌≤◌, length, true, false};
 ghost use Rattle.ritas_base.specs.declared.what.What.{What};
 ghost use Rattle.ritas_base.specs.declared.what.DriveWhat.{DriveWhat};
-ghost use Rattle.outside.specs.Faults.{HasCause};
 ghost use Rattle.node_loop.specs.Outs.{outs_of, tells_of};
 ghost use Rattle.node_session.specs.Lives.{disk_seen};
 ghost use Rattle.ritas.specs.Configs.{AnswersConfig, AnswersJob, DrivesPlan, FitsConfig, IsDrive, TakesText};
@@ -52,7 +51,7 @@ fn do_config<R: Net + Wait, K: Sink, L: Link, D: Disk>(
     requires fits { FitsConfig job config }
     ensures runs { Runs K.faults output.old output.new (L.faults link.old) (L.faults link.new) result }
     ensures others { result ≢ 4 }
-    ensures disk_counts { HasCause (D.faults disk.old) (D.faults disk.new) (result ≡ 9) }
+    ensures disk_counts { CountsIf (D.faults disk.old) (D.faults disk.new) (result ≡ 9) }
     ensures undisked { job ≢ Job.Node → disk.new ≡ disk.old }
     ensures answers { AnswersConfig (tells_of K.Sink L.Link) K.taken output.old output.new
         (outs_of K.Sink L.Link output.old link.old)
@@ -81,7 +80,7 @@ fn do_text<R: Net + Wait, K: Sink, L: Link, D: Disk>(
     requires within { length text.now ≤ text_limit }
     ensures runs { Runs K.faults output.old output.new (L.faults link.old) (L.faults link.new) result }
     ensures others { result ≢ 4 }
-    ensures disk_counts { HasCause (D.faults disk.old) (D.faults disk.new) (result ≡ 9) }
+    ensures disk_counts { CountsIf (D.faults disk.old) (D.faults disk.new) (result ≡ 9) }
     ensures undisked { job ≢ Job.Node → disk.new ≡ disk.old }
     ensures answers { AnswersJob (tells_of K.Sink L.Link) K.taken output.old output.new
         (outs_of K.Sink L.Link output.old link.old)
@@ -110,7 +109,7 @@ pub(crate) fn do_read<R: Net + Wait, S: Source, K: Sink, L: Link, D: Disk>(
     ensures runs { Runs K.faults output.old output.new (L.faults link.old) (L.faults link.new) result }
     ensures input_counts { CountsIf (S.faults input.old) (S.faults input.new) (result ≡ 4) }
     ensures taken { S.tells ≡ true → TakesText (S.left input.old) (S.left input.new) result }
-    ensures disk_counts { HasCause (D.faults disk.old) (D.faults disk.new) (result ≡ 9) }
+    ensures disk_counts { CountsIf (D.faults disk.old) (D.faults disk.new) (result ≡ 9) }
     ensures undisked { job ≢ Job.Node → disk.new ≡ disk.old }
     ensures answers { S.tells ≡ true → AnswersJob (tells_of K.Sink L.Link) K.taken output.old output.new
         (outs_of K.Sink L.Link output.old link.old)

@@ -28,7 +28,6 @@ ghost use Rattle.cluster_config.specs.Node.{node_column, node_text};
 ghost use Rattle.node_loop.specs.Outs.{outs_of, tells_of};
 ghost use Rattle.node_session.specs.Configs.{node_session, cluster_session};
 ghost use Rattle.ritas.specs.Run.{Asks, IsReplay, is_linked, IsStatus, IsOwnStatus, LinkCounts, LeavesLink, Ends, Replays, Runs, Replies, AnswersFile, WroteVectors};
-ghost use Rattle.outside.specs.Faults.{HasCause};
 ghost use Rattle.node_session.specs.Lives.{disk_seen};
 ghost use Rattle.ritas.specs.Configs.{AnswersJob, HasLived, HasServed, TakesText};
 ghost use Rattle.ritas.specs.Drives.{AnswersPlan};
@@ -140,7 +139,7 @@ fn work<R: Net + Wait, S: Source, K: Sink, L: Link, D: Disk>(
     ensures runs { Runs K.faults output.old output.new (L.faults link.old) (L.faults link.new) result }
     ensures input_counts { CountsIf (S.faults input.old) (S.faults input.new) (result ≡ 4) }
     ensures unlinked { is_linked job ≡ false → LeavesLink link.old link.new result }
-    ensures disk_counts { HasCause (D.faults disk.old) (D.faults disk.new) (result ≡ 9) }
+    ensures disk_counts { CountsIf (D.faults disk.old) (D.faults disk.new) (result ≡ 9) }
     ensures undisked { job ≢ Job.Node → disk.new ≡ disk.old }
     ensures wanting { (what : What) → job ≡ Job.Replay what → what ≢ Frames → result ≡ 8 → output.new ≡ output.old }
     ensures answers { (what : What) → job ≡ Job.Replay what → S.tells ≡ true
@@ -184,15 +183,15 @@ fn work<R: Net + Wait, S: Source, K: Sink, L: Link, D: Disk>(
 ///   0, or that there was none, with 1.
 ///
 /// A file that isn't a schedule is answered with a line that names its first fault and the place of it, and 3, or 7 for one that is longer
-/// than 64 MiB. A text that isn't the job's configuration is answered with a line that names its first wrong or missing line, and 3, or 7 for
-/// one that is longer than 1 MiB; a plan whose schedule would have more than 4,000,000 steps, or a file of more than 64 MiB, with a line that
-/// names that limit, and 7. A journal that is another session's, or broken, is answered with a line that names the place, and 3, and one that
-/// is longer than 64 MiB with the limit, and 7; where it becomes so long while it is kept, it is 7 without a line. Other words are answered
-/// with a line on usage, and 2. It is 4 where a call of the input failed, and then nothing was written; 5 where one of the output failed,
-/// which took a front of the text; and 6 where one of the link failed, which only `node`, `cluster` and `submit` use. By its count of faults
-/// just one call failed then, and none at any other status. It is 9 where a call of the disk failed: then a front of the file was written, or
-/// nothing where the journal couldn't be opened. It is 8 where memory ran out: then nothing was written of a report, of vectors or of a
-/// schedule that was made, and a front of frames or of what was served.
+/// than 64 MiB. A text that isn't the job's configuration is answered with a line that names its first wrong or missing line, and 3, or 7
+/// for one that is longer than 1 MiB; a plan whose schedule would have more than 4,000,000 steps, or a file of more than 64 MiB, with a
+/// line that names that limit, and 7. A journal that is another session's, or broken, is answered with a line that names the place, and 3,
+/// and one that is longer than 64 MiB with the limit, and 7; where it becomes so long while it is kept, it is 7 without a line. Other words
+/// are answered with a line on usage, and 2. It is 4 where a call of the input failed, and then nothing was written; 5 where one of the
+/// output failed, which took a front of the text; 6 where one of the link failed, which only `node`, `cluster` and `submit` use; and 9
+/// where one of the disk failed: then a front of the file was written, or nothing where the journal couldn't be opened. By its count of
+/// faults just one call failed then, and none at any other status. It is 8 where memory ran out: then nothing was written of a report, of
+/// vectors or of a schedule that was made, and a front of frames or of what was served.
 ///
 /// Of a schedule all is read before 0 or 1, and of a configuration one byte more than 1 MiB at most.
 ///
@@ -224,8 +223,8 @@ pub fn run<R: Net + Wait, S: Source, K: Sink, L: Link, D: Disk>(
     ensures input_counts { CountsIf (S.faults input.old) (S.faults input.new) (result ≡ 4) }
     ensures link_counts { LinkCounts (L.faults link.old) (L.faults link.new) result }
 
-    // A call of the disk failed where it is 9. No job but a node with a journal touches the disk.
-    ensures disk_counts { HasCause (D.faults disk.old) (D.faults disk.new) (result ≡ 9) }
+    // One call of the disk failed just at 9. No job but a node with a journal touches the disk.
+    ensures disk_counts { CountsIf (D.faults disk.old) (D.faults disk.new) (result ≡ 9) }
     ensures undisked { (job : Job) → job_of (map string_bytes words.now.items) ≡ Some job → job ≢ Job.Node → disk.new ≡ disk.old }
 
     // At words that name no job the usage line is written, with status 2, unless the output fails or memory runs out, and neither the input

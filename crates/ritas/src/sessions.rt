@@ -5,8 +5,8 @@ ghost use Rattle.cluster_config.specs.Node.{node_text};
 ghost use Rattle.cluster_config.specs.Ranges.{FitsNode, FitsCluster};
 ghost use Rattle.node_loop.specs.Outs.{outs_of, tells_of};
 ghost use Rattle.node_session.specs.Configs.{cluster_session, first_item};
-ghost use Rattle.outside.specs.Faults.{HasCause};
 ghost use Rattle.node_session.specs.Lives.{disk_seen};
+ghost use Rattle.schedule_replay.specs.Replay.{CountsIf};
 ghost use Rattle.ritas.specs.Configs.{AnswersBoth, AnswersSession};
 ghost use Rattle.ritas.specs.Run.{LeavesLink, Runs};
 ghost use Rattle.ritas.specs.Statuses.{end_status};
@@ -47,7 +47,7 @@ pub(crate) fn run_node<R: Net + Wait, K: Sink, L: Link, D: Disk>(
     requires fits { FitsNode (node_text config) }
     ensures runs { Runs K.faults output.old output.new (L.faults link.old) (L.faults link.new) result }
     ensures others { result ≢ 4 }
-    ensures disk_counts { HasCause (D.faults disk.old) (D.faults disk.new) (result ≡ 9) }
+    ensures disk_counts { CountsIf (D.faults disk.old) (D.faults disk.new) (result ≡ 9) }
     ensures answers { AnswersBoth config (tells_of K.Sink L.Link) K.taken output.old output.new
         (outs_of K.Sink L.Link output.old link.old)
         (outs_of K.Sink L.Link output.new link.new)

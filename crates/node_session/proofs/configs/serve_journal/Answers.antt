@@ -11,6 +11,7 @@ use Rattle.node_session.specs.Session.{IsServable}
 use Rattle.node_session.specs.declared.session.Session.{Session}
 use Rattle.node_session.specs.Lives.{Unopened, disk_seen}
 use Rattle.node_session.proofs.Headings.{node_servable}
+use Rattle.node_session.proofs.Counted.{node_counts, refused_counts}
 use Rattle.node_session.proofs.Kept.{node_life}
 use Rattle.node_session.proofs.Unopened.{unopened, own_member}
 use Rattle.node_session.proofs.configs.serve_journal.Goals as goal
@@ -31,7 +32,7 @@ returns-in_err-journal-clause-unserved g c =
     let fault = err_from_is_err_and c.from_residual.result c.from_residual.ensures.1 in
     rw (fault.1 ∙ ap (λ (x : JournalFault). Err x) fault.2) (
       unopened c.args.config c.journal_head-head.result (disk_seen g.D.Disk c.args.disk.now c.open_journal.new.disk) _ c.in_err-journal.field-0.0 refl
-          c.journal_head-head.ensures.exact e.since e.foreign e.broken e.full e.cause,
+          c.journal_head-head.ensures.exact e.since e.foreign e.broken e.full e.cause.later e.counts,
       refl,
       refl,
     )
@@ -45,7 +46,7 @@ returns-clause-served g c =
     let told = g.D.Disk.told in
     let count = g.D.Disk.faults in
     node_life c.args.config head c.journal_head-head.ensures.exact past g.D.Disk.tells (told c.args.disk.now) (told c.open_journal.new.disk) (told c.serve_life.new.disk)
-    (count c.args.disk.now) (count c.open_journal.new.disk) (count c.serve_life.new.disk) journal c.serve_life.new.life.journal e.live.0 e.since e.cause.later
+    (count c.args.disk.now) (count c.open_journal.new.disk) (count c.serve_life.new.disk) journal c.serve_life.new.life.journal e.live.0 e.since e.counts.stands
     c.session_of.result _ _ _ c.in_ok-serve_life.field-0 c.session_of.ensures.session e.gives
     (c.in_ok-serve_life.ensures.served head (λ t. (
       (e.opened t).0,
@@ -62,6 +63,23 @@ returns-in_err-serve_life-clause-unserved g c =
       cause = tt;
       since = λ t. subst (λ (h : List ℕ). LeavesOnly (OpensAsKept c.args.config.me h (disk_state_of d.before)) d.before d.now) c.journal_head-head.ensures.exact (e.since t);
       later = e.cause.later;
+      none_failed = λ _. e.counts.stands;
     } in
     rw (fault.1 ∙ ap (λ (x : JournalFault). Err x) fault.2)
     (subst (λ disk. Unopened c.args.config (disk_seen g.D.Disk c.args.disk.now disk) faults.Mem) (sym same.2) short, same.0, same.1)
+
+-- its disk
+
+pub returns-in_err-journal-clause-disk_counts : goal.returns-in_err-journal-clause-disk_counts
+returns-in_err-journal-clause-disk_counts g c =
+    refused_counts c.args.config (disk_seen g.D.Disk c.args.disk.now c.open_journal.new.disk) (c.args.output.now ≡ c.args.output.now) (c.args.link.now ≡ c.args.link.now) c.from_residual.result
+    c.from_residual.ensures.0 (returns-in_err-journal-clause-unserved g c)
+
+pub returns-clause-disk_counts : goal.returns-clause-disk_counts
+returns-clause-disk_counts g c =
+    node_counts c.args.config _ _ _ (disk_seen g.D.Disk c.args.disk.now c.serve_life.new.disk) c.in_ok-serve_life.field-0 (returns-clause-served g c)
+
+pub returns-in_err-serve_life-clause-disk_counts : goal.returns-in_err-serve_life-clause-disk_counts
+returns-in_err-serve_life-clause-disk_counts g c =
+    refused_counts c.args.config (disk_seen g.D.Disk c.args.disk.now c.serve_life.new.disk) (c.serve_life.new.output ≡ c.args.output.now) (c.serve_life.new.link ≡ c.args.link.now)
+    c.from_residual-in_err-serve_life.result c.from_residual-in_err-serve_life.ensures.0 (returns-in_err-serve_life-clause-unserved g c)

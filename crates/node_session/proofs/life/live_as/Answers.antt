@@ -14,7 +14,7 @@ returns-in-Err-clause-served g c = λ head stands.
     let other = g.E.Broadcast.rules in
     let w = setting_by service other h in
     let kind = is_world service other h c.requires.servable.heading c.requires.serves (g.met.E.Broadcast.form ∙ c.requires.form) in
-    let events = c.args.life.now.recovered.items in
+    let events = c.args.recovered.items in
     life_fails session (reverse events) w _ _ _
     (λ groups are. is_life h w c.requires.servable.heading service other kind refl (λ i right. right) c.acts_are_deeds.ensures.deeds c.acts_are_deeds.ensures.behind c.frames_are_made.ensures.made
     c.resends_are_open.ensures.unacknowledged c.acks_are_earned.ensures.earned c.events_fit.ensures.fit c.replies_are_true.ensures.replies c.agreement.ensures
@@ -29,14 +29,14 @@ returns-clause-served g c = λ head stands.
     let other = g.E.Broadcast.rules in
     let w = setting_by service other h in
     let here = c.in_ok-replicas.ensures.here in
-    let events = c.args.life.now.recovered.items in
-    let run = c.serve_kept-end.ensures.serves head w (members w) here c.requires.member stands in
+    let events = c.args.recovered.items in
+    let run = c.serve_recovered-end.ensures.serves head w (members w) here c.requires.member stands in
     lives session (reverse events) w _ _ _
     (λ groups are. is_life h w c.requires.servable.heading service other here.kind refl (λ i right. right) c.acts_are_deeds.ensures.deeds c.acts_are_deeds.ensures.behind c.frames_are_made.ensures.made
     c.resends_are_open.ensures.unacknowledged c.acks_are_earned.ensures.earned c.events_fit.ensures.fit c.replies_are_true.ensures.replies c.agreement.ensures
     c.recalled_are_sent.ensures.sent c.recalled_are_sent.ensures.again session.until session.limit c.args.life.now.journal.me events c.requires.member c.requires.own groups are)
-    _ (members w) c.serve_kept-end.new.replicas.items _ _ _ _ c.in-Ok.ensures.opens c.serve_kept-end.result c.close.result run refl
+    _ (members w) c.serve_recovered-end.new.replicas.items _ _ _ _ c.in-Ok.ensures.opens c.serve_recovered-end.result c.close.result run refl
     refl c.close.ensures.reason
     (λ fault.
     let kept = c.close.ensures.fault fault in
-    (kept.0, ap (λ o. record { taken = g.K.Sink.taken o; tape_faults = g.K.Sink.faults o; told = g.L.Link.told c.serve_kept-end.new.link; link_faults = g.L.Link.faults c.serve_kept-end.new.link }) kept.1))
+    (kept.0, ap (λ o. record { taken = g.K.Sink.taken o; tape_faults = g.K.Sink.faults o; told = g.L.Link.told c.serve_recovered-end.new.link; link_faults = g.L.Link.faults c.serve_recovered-end.new.link }) kept.1))

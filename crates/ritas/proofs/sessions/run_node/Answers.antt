@@ -1,8 +1,7 @@
-use Rattle.std.proofs.Common.{refl, ap, subst}
+use Rattle.std.proofs.Common.{refl, subst}
 use Rattle.ritas.specs.Configs.{RefusesJournal}
 use Rattle.node_loop.specs.Outs.{tells_of}
-use Rattle.node_session.specs.Lives.{disk_seen}
-use Rattle.ritas.proofs.Lived.{both_served, both_run, both_count, both_refused, refused_count}
+use Rattle.ritas.proofs.Lived.{both_served, both_run, both_refused, served_count, refused_count}
 use Rattle.ritas.proofs.sessions.run_node.Goals as goal
 
 pub returns-in-Ok-clause-answers : goal.returns-in-Ok-clause-answers
@@ -19,8 +18,7 @@ returns-in-Ok-clause-runs g c =
 
 pub returns-in-Ok-clause-disk_counts : goal.returns-in-Ok-clause-disk_counts
 returns-in-Ok-clause-disk_counts g c =
-    let e = c.in-Ok.ensures in
-    rw c.end_status.ensures.status (both_count c.args.config (tells_of g.K.Sink g.L.Link) _ _ _ c.in-Ok.end e.served (λ none. ap g.D.Disk.faults (e.undisked none).0) e.kept)
+    rw c.end_status.ensures.status (served_count _ _ c.in-Ok.end c.in-Ok.ensures.disk_counts)
 
 pub returns-in-Err-clause-answers : goal.returns-in-Err-clause-answers
 returns-in-Err-clause-answers g c =
@@ -31,6 +29,4 @@ returns-in-Err-clause-answers g c =
 
 pub returns-in-Err-clause-disk_counts : goal.returns-in-Err-clause-disk_counts
 returns-in-Err-clause-disk_counts g c =
-    let e = c.in-Err.ensures in
-    refused_count c.args.config (disk_seen g.D.Disk c.args.disk.now c.serve_node.new.disk) c.in-Err.fault c.refuse_journal.result
-    c.refuse_journal.ensures.disk.0 (λ none. ap g.D.Disk.faults (e.undisked none).0) (λ none. (e.undisked none).1) e.unopened
+    refused_count _ _ c.refuse_journal.result c.in-Err.fault c.refuse_journal.ensures.disk c.in-Err.ensures.disk_counts

@@ -20,7 +20,7 @@ pub returns-in-Ok : goal.returns-in-Ok
 returns-in-Ok g c = record {
   keeps = λ name before past given stands. (
     c.in-Ok.ensures.me ∙ stands.0,
-    stands_on (head_named name) past given (reverse c.args.events.now) _ _ _ _ _ c.args.self.now stands.1 c.append_all.new.self _ _ c.in-Ok.ensures.me c.in-Ok.ensures.cause.later c.in-Ok.ensures.kept,
+    stands_on (head_named name) past given (reverse c.args.events.now) _ _ _ _ _ c.args.self.now stands.1 c.append_all.new.self _ _ c.in-Ok.ensures.me c.in-Ok.ensures.counts.stands c.in-Ok.ensures.kept,
   );
 }
 
@@ -29,7 +29,7 @@ returns-in-Err-Disk g c = record {
   keeps = λ name before past given stands. (
     c.in-Err-Disk.ensures.me ∙ stands.0,
     fails_so (head_named name) past given (reverse c.args.events.now) _ _ _ _ _ c.args.self.now stands.1 c.append_all.new.self _ _ c.in-Err-Disk.field-0 archive.Disk c.in-Err-Disk.ensures.me
-        c.in-Err-Disk.ensures.cause.later c.in-Err-Disk.ensures.kept (λ is. c.in-Err-Disk.ensures.cause.cause (ap Err c.in-Err-Disk.field-0-is)) (λ x is. cc is),
+        c.in-Err-Disk.ensures.cause.later c.in-Err-Disk.ensures.kept (λ is. c.in-Err-Disk.ensures.counts.rises (ap Err c.in-Err-Disk.field-0-is)) (λ other. absurd (other refl)) (λ x is. cc is),
   );
 }
 
@@ -48,11 +48,32 @@ returns-in-Err-Full g c = record {
       );
 }
 
-pub returns-in-Err : goal.returns-in-Err
-returns-in-Err g c = record {
+pub returns-in-Err-Mem : goal.returns-in-Err-Mem
+returns-in-Err-Mem g c = record {
   keeps = λ name before past given stands. (
-    c.in-Err.ensures.me ∙ stands.0,
-    fails_so (head_named name) past given (reverse c.args.events.now) _ _ _ _ _ c.args.self.now stands.1 c.append_all.new.self _ _ c.in-Err.field-0 archive.Mem c.in-Err.ensures.me c.in-Err.ensures.cause.later
-        c.in-Err.ensures.kept (λ is. cc is) (λ x is. cc is),
+    c.in-Err-Mem.ensures.me ∙ stands.0,
+    fails_so (head_named name) past given (reverse c.args.events.now) _ _ _ _ _ c.args.self.now stands.1 c.append_all.new.self _ _ c.in-Err-Mem.field-0 archive.Mem c.in-Err-Mem.ensures.me
+        c.in-Err-Mem.ensures.cause.later c.in-Err-Mem.ensures.kept (λ is. cc is)
+        (λ _. c.in-Err-Mem.ensures.counts.others (λ failed. let other = sym (ap Err c.in-Err-Mem.field-0-is) ∙ failed in cc other)) (λ x is. cc is),
+  );
+}
+
+pub returns-in-Err-Foreign : goal.returns-in-Err-Foreign
+returns-in-Err-Foreign g c = record {
+  keeps = λ name before past given stands. (
+    c.in-Err-Foreign.ensures.me ∙ stands.0,
+    fails_so (head_named name) past given (reverse c.args.events.now) _ _ _ _ _ c.args.self.now stands.1 c.append_all.new.self _ _ c.in-Err-Foreign.field-0 archive.Mem c.in-Err-Foreign.ensures.me
+        c.in-Err-Foreign.ensures.cause.later c.in-Err-Foreign.ensures.kept (λ is. cc is)
+        (λ _. c.in-Err-Foreign.ensures.counts.others (λ failed. let other = sym (ap Err c.in-Err-Foreign.field-0-is) ∙ failed in cc other)) (λ x is. cc is),
+  );
+}
+
+pub returns-in-Err-Broken : goal.returns-in-Err-Broken
+returns-in-Err-Broken g c = record {
+  keeps = λ name before past given stands. (
+    c.in-Err-Broken.ensures.me ∙ stands.0,
+    fails_so (head_named name) past given (reverse c.args.events.now) _ _ _ _ _ c.args.self.now stands.1 c.append_all.new.self _ _ c.in-Err-Broken.field-0 archive.Mem c.in-Err-Broken.ensures.me
+        c.in-Err-Broken.ensures.cause.later c.in-Err-Broken.ensures.kept (λ is. cc is)
+        (λ _. c.in-Err-Broken.ensures.counts.others (λ failed. let other = sym (ap Err c.in-Err-Broken.field-0-is) ∙ failed in cc other)) (λ x is. cc is),
   );
 }
