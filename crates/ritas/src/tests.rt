@@ -78,7 +78,7 @@ audit holds
 ";
 
 const USAGE: &str =
-    "usage: ritas replay report|frames|vectors, drive report|schedule, keys, node, cluster, submit\n";
+    "usage: ritas replay report|frames|vectors, drive report|schedule, keys, node, cluster, submit, watch\n";
 
 // The status, or 99 where the output isn't this text.
 fn status<R: Net + Wait>(
