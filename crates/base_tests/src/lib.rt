@@ -16,8 +16,10 @@
 //! | `resuming` | `link_resume` |
 //! | `key_texts` | `key_rows` |
 //! | `submitting` | `request_submit` |
+//! | `watching` | `log_watch` |
 //! | `holding` | `ooc_buffers` |
 //! | `commands` | `command_log` |
+//! | `observing` | `observer`, and the pieces and queries of `client_port` |
 #![tactic(auto)]
 
 #[cfg(test)]
@@ -43,6 +45,8 @@ mod key_texts;
 #[cfg(test)]
 mod notes;
 #[cfg(test)]
+mod observing;
+#[cfg(test)]
 mod replies;
 #[cfg(test)]
 mod resuming;
@@ -60,3 +64,5 @@ mod submitting;
 mod tags;
 #[cfg(test)]
 mod values;
+#[cfg(test)]
+mod watching;

@@ -88,3 +88,10 @@ submit_entered = record {
   faults = λ n rest. rw (walks (codes "submit") rest, is_right (codes "submit") rest) (no_more _);
   meets = λ n rest. ap (λ (w : Walk). entered (built ritas) w.stopped) (walks (codes "submit") rest);
 }
+
+pub watch_entered : IsEntered (codes "watch") (alone (codes "watch"))
+unfolding clap_on_literals
+watch_entered = record {
+  faults = λ n rest. rw (walks (codes "watch") rest, is_right (codes "watch") rest) (no_more _);
+  meets = λ n rest. ap (λ (w : Walk). entered (built ritas) w.stopped) (walks (codes "watch") rest);
+}

@@ -11,11 +11,11 @@ use Rattle.clap.proofs.OnLiterals.{clap_on_literals}
 use Rattle.ritas_base.specs.declared.what.What.TheVariants as what
 use Rattle.ritas_base.specs.declared.what.DriveWhat.TheVariants as drive_what
 use Rattle.cluster_config.specs.declared.job.Job.{Job}
-use Rattle.cluster_config.specs.declared.job.Job.TheVariants.{Replay, Drive, Keys, Node, Cluster, Submit}
+use Rattle.cluster_config.specs.declared.job.Job.TheVariants.{Replay, Drive, Keys, Node, Cluster, Submit, Watch}
 use Rattle.cluster_config.specs.Words.{is_hyphened, job_of, job_named, replay_named, drive_named, list_of}
 use Rattle.cluster_config.specs.Command.{alone, with_value, ritas}
 use Rattle.cluster_config.proofs.Walks.{sub, no_hyphen, no_dashes, no_value, one_value, two_values, value_is, nothing, something}
-use Rattle.cluster_config.proofs.Entered.{IsEntered, replay_entered, drive_entered, keys_entered, node_entered, cluster_entered, submit_entered}
+use Rattle.cluster_config.proofs.Entered.{IsEntered, replay_entered, drive_entered, keys_entered, node_entered, cluster_entered, submit_entered, watch_entered}
 
 -- ---- words that enter no subcommand
 
@@ -26,13 +26,14 @@ record Unnamed (w : Text) : Type 0 where
   node : bytes_eq (codes "node") w ≡ false
   cluster : bytes_eq (codes "cluster") w ≡ false
   submit : bytes_eq (codes "submit") w ≡ false
+  watch : bytes_eq (codes "watch") w ≡ false
 
 stray : (n w : Text) (rest : List Text) → is_hyphened w ≡ false → Unnamed w → fault_of ritas (n ∷ w ∷ rest) ≡ kind.UnknownArgument ∷ kind.InvalidSubcommand ∷ []
 unfolding clap_on_literals
 stray n w rest plain unnamed =
     let stripped = no_hyphen w plain in
     let dashes = no_dashes w plain in
-    rw (unnamed.replay, unnamed.drive, unnamed.keys, unnamed.node, unnamed.cluster, unnamed.submit, dashes, stripped, stripped) refl
+    rw (unnamed.replay, unnamed.drive, unnamed.keys, unnamed.node, unnamed.cluster, unnamed.submit, unnamed.watch, dashes, stripped, stripped) refl
 
 none : (n : Text) → fault_of ritas (n ∷ []) ≡ kind.MissingSubcommand ∷ []
 unfolding clap_on_literals
@@ -56,7 +57,8 @@ listed (w ∷ rest) = if bytes_eq (codes "replay") w then with_one replay_named 
     else (if bytes_eq (codes "keys") w then with_none Keys rest
     else (if bytes_eq (codes "node") w then with_none Node rest
     else (if bytes_eq (codes "cluster") w then with_none Cluster rest
-    else (if bytes_eq (codes "submit") w then with_none Submit rest else None)))))
+    else (if bytes_eq (codes "submit") w then with_none Submit rest
+    else (if bytes_eq (codes "watch") w then with_none Watch rest else None))))))
 
 abbrev ArePlain : List Text → Type 0
 ArePlain = AllByRecursion (λ w. is_hyphened w ≡ false)
@@ -99,7 +101,9 @@ job_listed n (w ∷ rest) plain =
     pick (bytes_eq (codes "node") w) at _ _ (named n w (codes "node") rest _ (single (codes "node") Node node_entered (λ o. refl) n rest plain.1)) (λ node.
     pick (bytes_eq (codes "cluster") w) at _ _ (named n w (codes "cluster") rest _ (single (codes "cluster") Cluster cluster_entered (λ o. refl) n rest plain.1)) (λ cluster.
     pick (bytes_eq (codes "submit") w) at _ _ (named n w (codes "submit") rest _ (single (codes "submit") Submit submit_entered (λ o. refl) n rest plain.1)) (λ submit.
-    stray_job n w rest plain.0 (record { replay = replay; drive = drive; keys = keys; node = node; cluster = cluster; submit = submit })))))))
+    pick (bytes_eq (codes "watch") w) at _ _ (named n w (codes "watch") rest _ (single (codes "watch") Watch watch_entered (λ o. refl) n rest plain.1)) (λ watch.
+    stray_job n w rest plain.0
+    (record { replay = replay; drive = drive; keys = keys; node = node; cluster = cluster; submit = submit; watch = watch }))))))))
 
 -- ---- the lists of the table
 
@@ -113,6 +117,7 @@ listed_back Keys = refl
 listed_back Node = refl
 listed_back Cluster = refl
 listed_back Submit = refl
+listed_back Watch = refl
 
 split : {G : Type 0} (b : Bool) (one other : Option Job) (job : Job) → (b ≡ true → one ≡ Some job → G) → (other ≡ Some job → G) → (if b then one else other) ≡ Some job → G
 split true one other job f h e = f refl e
@@ -159,7 +164,8 @@ listed_is (w ∷ rest) job e =
     (split (bytes_eq (codes "keys") w) _ _ job (single_is Keys (codes "keys") w rest job refl)
     (split (bytes_eq (codes "node") w) _ _ job (single_is Node (codes "node") w rest job refl)
     (split (bytes_eq (codes "cluster") w) _ _ job (single_is Cluster (codes "cluster") w rest job refl)
-    (split (bytes_eq (codes "submit") w) _ _ job (single_is Submit (codes "submit") w rest job refl) (λ d. absurd cc)))))) e
+    (split (bytes_eq (codes "submit") w) _ _ job (single_is Submit (codes "submit") w rest job refl)
+    (split (bytes_eq (codes "watch") w) _ _ job (single_is Watch (codes "watch") w rest job refl) (λ d. absurd cc))))))) e
 
 -- the words name a job exactly where they are its list
 pub words_name : (n : Text) (words : List Text) (job : Job) → ArePlain words → (job_of (n ∷ words) ≡ Some job) ↔ (words ≡ list_of job)

@@ -15,6 +15,7 @@ use Rattle.ritas_base.specs.declared.mode.FrameVersion.{FrameVersion}
 use Rattle.ritas_base.specs.declared.mode.FrameVersion.TheVariants.{One, Two}
 use Rattle.cluster_config.specs.declared.requests.Request.{Request}
 use Rattle.cluster_config.specs.declared.submit.SubmitConfig.{SubmitConfig}
+use Rattle.cluster_config.specs.declared.watch.WatchConfig.{WatchConfig}
 use Rattle.cluster_config.specs.Values.{numeral, if_within, number_in, numbers_of, numbers_in, version_in, if_ok, key_in, keys_in, row_in, number_before, payload_in, request_of_line}
 use Rattle.cluster_config.specs.Cuts.{cut_at}
 use Rattle.cluster_config.specs.Columns.{BeginsWith, Column, is_one_line, lines_of, lines_up_to, read_text, IsText}
@@ -23,7 +24,8 @@ use Rattle.cluster_config.specs.Drive.{Planned, drive_column}
 use Rattle.cluster_config.specs.Node.{NodeText, node_column}
 use Rattle.cluster_config.specs.Cluster.{ClusterText, cluster_column}
 use Rattle.cluster_config.specs.Submit.{submit_column}
-use Rattle.cluster_config.specs.Ranges.{StartsWith, IsVersionOf, FitsPlan, FitsNode, FitsCluster, FitsSubmit}
+use Rattle.cluster_config.specs.Watch.{watch_column}
+use Rattle.cluster_config.specs.Ranges.{StartsWith, IsVersionOf, FitsPlan, FitsNode, FitsCluster, FitsSubmit, FitsWatch}
 use Rattle.cluster_config.proofs.Columns.{read_right}
 
 -- ---- values
@@ -294,6 +296,15 @@ submit_fits text x is =
       short = (request_fits p.0.n request.2.value request.0 request.2.reads).short;
     })
 
+watch_fits : (text : List ℕ) (x : WatchConfig) → IsText watch_column x text → FitsWatch x
+unfolding watch_column numbers_lines
+watch_fits text x is =
+    let p = is.3.3 in
+    let peers = lines_say _ _ _ _ _ x p.1 p.3 in
+    let until = peers.more in
+    let range = number_range 1 4294967295 until.2.value until.0 until.2.reads in
+    subst (λ (y : WatchConfig). FitsWatch y) until.3.1 (record { peers = peers.many; least = range.0 })
+
 plan_fits : (text : List ℕ) (x : Planned) → IsText drive_column x text → FitsPlan x
 unfolding drive_column session_lines numbers_lines
 plan_fits text x is =
@@ -383,6 +394,9 @@ cluster_read text x e = cluster_fits text x ((read_right cluster_column).found t
 
 pub submit_read : (text : List ℕ) (x : SubmitConfig) → read_text submit_column text ≡ Ok x → FitsSubmit x
 submit_read text x e = submit_fits text x ((read_right submit_column).found text x e)
+
+pub watch_read : (text : List ℕ) (x : WatchConfig) → read_text watch_column text ≡ Ok x → FitsWatch x
+watch_read text x e = watch_fits text x ((read_right watch_column).found text x e)
 
 pub drive_version : (text : List ℕ) (x : Planned) → read_text drive_column text ≡ Ok x → IsVersionOf text x.version
 drive_version text x e = drive_first text x ((read_right drive_column).found text x e)

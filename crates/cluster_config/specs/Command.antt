@@ -1,4 +1,4 @@
--- The command that the words are read by: two subcommands with one required value each, and four without any.
+-- The command that the words are read by: two subcommands with one required value each, and five without any.
 use Rattle.std.specs.Prelude.{Some, true, codes}
 use Rattle.clap.specs.Words.{App, Rule, Shape, Text, new_app, new_rule, with_rule, with_subcommand}
 use Rattle.clap.specs.declared.builder.action.ArgAction.TheVariants.{Set}
@@ -32,4 +32,5 @@ ritas =
     let with_keys = with_subcommand valued_word (alone (codes "keys")) in
     let with_node = with_subcommand with_keys (alone (codes "node")) in
     let with_cluster = with_subcommand with_node (alone (codes "cluster")) in
-    with_subcommand with_cluster (alone (codes "submit"))
+    let with_submit = with_subcommand with_cluster (alone (codes "submit")) in
+    with_subcommand with_submit (alone (codes "watch"))

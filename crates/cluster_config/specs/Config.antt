@@ -1,7 +1,7 @@
 -- What is answered of the configuration text of a job.
 use Rattle.std.specs.Prelude.{◌≡◌, ℕ, List, Result, Ok, Err}
 use Rattle.cluster_config.specs.declared.config.Config.{Config}
-use Rattle.cluster_config.specs.declared.config.Config.TheVariants.{Drive, Keys, Node, Cluster, Submit}
+use Rattle.cluster_config.specs.declared.config.Config.TheVariants.{Drive, Keys, Node, Cluster, Submit, Watch}
 use Rattle.cluster_config.specs.declared.config.ConfigFault.{ConfigFault}
 use Rattle.cluster_config.specs.declared.config.ConfigFault.TheVariants.{Line, Mem}
 use Rattle.cluster_config.specs.Columns.{Column, read_text}
@@ -10,6 +10,7 @@ use Rattle.cluster_config.specs.Keys.{keys_column}
 use Rattle.cluster_config.specs.Node.{node_column, node_text}
 use Rattle.cluster_config.specs.Cluster.{cluster_column, cluster_text}
 use Rattle.cluster_config.specs.Submit.{submit_column}
+use Rattle.cluster_config.specs.Watch.{watch_column}
 
 -- what a text of a column's lines says, or its first wrong line; it takes no memory
 abbrev pub SaysConfig : {X C : Type 0} → Column X → (C → X) → List ℕ → Result C ConfigFault → Type 0
@@ -47,3 +48,8 @@ abbrev pub AnswersSubmit : List ℕ → Result Config ConfigFault → Type 0
 AnswersSubmit text (Ok (Submit config)) = ReadsConfig submit_column (λ submit. submit) text (Ok config)
 AnswersSubmit text (Err fault) = ReadsConfig submit_column (λ submit. submit) text (Err fault)
 AnswersSubmit text other = ⊥
+
+abbrev pub AnswersWatch : List ℕ → Result Config ConfigFault → Type 0
+AnswersWatch text (Ok (Watch config)) = ReadsConfig watch_column (λ watch. watch) text (Ok config)
+AnswersWatch text (Err fault) = ReadsConfig watch_column (λ watch. watch) text (Err fault)
+AnswersWatch text other = ⊥

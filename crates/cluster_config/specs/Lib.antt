@@ -11,6 +11,7 @@ pub mod Views
 pub mod Node
 pub mod Cluster
 pub mod Submit
+pub mod Watch
 pub mod Seen
 pub mod Config
 pub mod Ranges

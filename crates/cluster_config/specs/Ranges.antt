@@ -5,6 +5,7 @@ use Rattle.ritas_base.specs.Limits.{longest_payload}
 use Rattle.ritas_base.specs.declared.mode.FrameVersion.{FrameVersion}
 use Rattle.ritas_base.specs.declared.mode.FrameVersion.TheVariants.{One, Two}
 use Rattle.cluster_config.specs.declared.submit.SubmitConfig.{SubmitConfig}
+use Rattle.cluster_config.specs.declared.watch.WatchConfig.{WatchConfig}
 use Rattle.cluster_config.specs.Drive.{Planned}
 use Rattle.cluster_config.specs.Node.{NodeText}
 use Rattle.cluster_config.specs.Cluster.{ClusterText, most_requests}
@@ -45,3 +46,8 @@ pub record FitsCluster (x : ClusterText) : Type 0 where
 pub record FitsSubmit (x : SubmitConfig) : Type 0 where
   pub peers : length x.peers ≡ x.p.n
   pub short : length x.request.payload ≤ longest_payload
+
+-- that of a log that is to be watched: there is a peer for each of n replicas, and at least one row is waited for
+pub record FitsWatch (x : WatchConfig) : Type 0 where
+  pub peers : length x.peers ≡ x.p.n
+  pub least : 1 ≤ x.until

@@ -8,7 +8,7 @@ use Rattle.ritas_base.specs.declared.what.What.TheVariants.{Frames, Vectors}
 use Rattle.ritas_base.specs.declared.what.DriveWhat.TheVariants.{Schedule}
 use Rattle.ritas_base.specs.declared.plan.Order.TheVariants.{Random}
 use Rattle.ritas_base.specs.declared.plan.Attack.TheVariants.{Absent}
-use Rattle.cluster_config.specs.declared.job.Job.TheVariants.{Replay, Drive, Node}
+use Rattle.cluster_config.specs.declared.job.Job.TheVariants.{Replay, Drive, Node, Watch}
 use Rattle.cluster_config.specs.Words.{job_of}
 use Rattle.cluster_config.specs.Values.{numeral, number_in, numbers_in}
 use Rattle.cluster_config.specs.Lines.{line_at, text_end_at, line_value_at, field_at}
@@ -46,6 +46,10 @@ no_vectors = refl
 runs : job_of (codes "ritas" ∷ codes "node" ∷ []) ≡ Some Node
 unfolding job_of clap_on_literals
 runs = refl
+
+watches : job_of (codes "ritas" ∷ codes "watch" ∷ []) ≡ Some Watch
+unfolding job_of clap_on_literals
+watches = refl
 
 -- and with one
 with_value : job_of (codes "ritas" ∷ codes "node" ∷ codes "report" ∷ []) ≡ None

@@ -3,6 +3,8 @@ use Rattle.cluster_config.specs.declared.node.NodeView.{NodeView}
 use Rattle.cluster_config.specs.declared.cluster.ClusterView.{ClusterView}
 use Rattle.cluster_config.specs.declared.submit.SubmitView.{SubmitView}
 use Rattle.cluster_config.specs.declared.submit.SubmitConfig.{SubmitConfig}
+use Rattle.cluster_config.specs.declared.watch.WatchView.{WatchView}
+use Rattle.cluster_config.specs.declared.watch.WatchConfig.{WatchConfig}
 use Rattle.cluster_config.specs.Node.{NodeText}
 use Rattle.cluster_config.specs.Cluster.{ClusterText}
 use Rattle.cluster_config.specs.Views.{viewed_request}
@@ -40,3 +42,6 @@ cluster_seen view = record {
 
 abbrev pub submit_seen : SubmitView → SubmitConfig
 submit_seen view = record { p = view.p; peers = view.peers; request = viewed_request view.request }
+
+abbrev pub watch_seen : WatchView → WatchConfig
+watch_seen view = record { p = view.p; peers = view.peers; until = view.until }

@@ -10,6 +10,7 @@ use Rattle.cluster_config.specs.Keys.{keys_column}
 use Rattle.cluster_config.specs.Node.{NodeText, node_column}
 use Rattle.cluster_config.specs.Cluster.{ClusterText, cluster_column}
 use Rattle.cluster_config.specs.Submit.{submit_column}
+use Rattle.cluster_config.specs.Watch.{watch_column}
 
 -- the lines behind the first, up to the root service
 abbrev session_7 : List ℕ
@@ -203,3 +204,25 @@ two_requests = refl
 session : read_text submit_column front ≡ Err 2
 unfolding read_text read_by submit_column numbers_lines field_at line_value_at line_at text_end_at
 session = refl
+
+-- ---- a log that is to be watched
+
+-- of a session of either version
+watch : read_text watch_column (codes "ritas 1\nn 1\nf 0\npeer 10.0.0.1:4000\nuntil 3\n")
+    ≡ Ok (record { p = record { n = 1; f = 0 }; peers = codes "10.0.0.1:4000" ∷ []; until = 3 })
+unfolding read_text read_by watch_column numbers_lines lines_of field_at line_value_at line_at text_end_at
+watch = refl
+
+watch_of_two : read_text watch_column (codes "ritas 2\nn 1\nf 0\npeer 10.0.0.1:4000\nuntil 3\n")
+    ≡ Ok (record { p = record { n = 1; f = 0 }; peers = codes "10.0.0.1:4000" ∷ []; until = 3 })
+unfolding read_text read_by watch_column numbers_lines lines_of field_at line_value_at line_at text_end_at
+watch_of_two = refl
+
+-- at least one row is waited for
+until_zero : read_text watch_column (codes "ritas 1\nn 1\nf 0\npeer 10.0.0.1:4000\nuntil 0\n") ≡ Err 5
+unfolding read_text read_by watch_column numbers_lines lines_of field_at line_value_at line_at text_end_at
+until_zero = refl
+
+two_untils : read_text watch_column (codes "ritas 1\nn 1\nf 0\npeer 10.0.0.1:4000\nuntil 3\nuntil 3\n") ≡ Err 6
+unfolding read_text read_by watch_column numbers_lines lines_of field_at line_value_at line_at text_end_at
+two_untils = refl

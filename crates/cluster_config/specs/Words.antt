@@ -6,7 +6,7 @@ use Rattle.clap.specs.Words.{Row, Text, fault_of, first_of, subcommand_of}
 use Rattle.ritas_base.specs.declared.what.What.TheVariants as what
 use Rattle.ritas_base.specs.declared.what.DriveWhat.TheVariants as drive_what
 use Rattle.cluster_config.specs.declared.job.Job.{Job}
-use Rattle.cluster_config.specs.declared.job.Job.TheVariants.{Replay, Drive, Keys, Node, Cluster, Submit}
+use Rattle.cluster_config.specs.declared.job.Job.TheVariants.{Replay, Drive, Keys, Node, Cluster, Submit, Watch}
 use Rattle.cluster_config.specs.Command.{ritas}
 
 -- the words after the program's name that ask for a job
@@ -20,6 +20,7 @@ list_of Keys = codes "keys" ∷ []
 list_of Node = codes "node" ∷ []
 list_of Cluster = codes "cluster" ∷ []
 list_of Submit = codes "submit" ∷ []
+list_of Watch = codes "watch" ∷ []
 
 -- the word begins with a hyphen
 abbrev pub is_hyphened : Text → Bool
@@ -43,7 +44,8 @@ abbrev pub alone_named : Text → Option Job
 alone_named name = if bytes_eq name (codes "keys") then Some Keys
     else (if bytes_eq name (codes "node") then Some Node
     else (if bytes_eq name (codes "cluster") then Some Cluster
-    else (if bytes_eq name (codes "submit") then Some Submit else None)))
+    else (if bytes_eq name (codes "submit") then Some Submit
+    else (if bytes_eq name (codes "watch") then Some Watch else None))))
 
 -- the job of a subcommand and its value
 abbrev pub job_named : Text → Option Text → Option Job

@@ -72,5 +72,6 @@ pub(crate) fn ritas<'a>(alloc: Global) -> Result<Command<'a>, AllocError>
     let command = and_alone(alloc, command, "keys")?;
     let command = and_alone(alloc, command, "node")?;
     let command = and_alone(alloc, command, "cluster")?;
-    and_alone(alloc, command, "submit")
+    let command = and_alone(alloc, command, "submit")?;
+    and_alone(alloc, command, "watch")
 }

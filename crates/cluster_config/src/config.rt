@@ -3,7 +3,7 @@ ghost use Rattle.std.specs.Prelude.{◌≡◌, ◌≢◌};
 ghost use Rattle.ritas_base.specs.declared.what.What.{What};
 ghost use Rattle.ritas_base.specs.declared.what.DriveWhat.{DriveWhat};
 ghost use Rattle.cluster_config.specs.declared.config.ConfigFault.TheVariants as faults;
-ghost use Rattle.cluster_config.specs.Config.{AnswersDrive, AnswersKeys, AnswersNode, AnswersCluster, AnswersSubmit};
+ghost use Rattle.cluster_config.specs.Config.{AnswersDrive, AnswersKeys, AnswersNode, AnswersCluster, AnswersSubmit, AnswersWatch};
 
 use crate::cluster::{ClusterConfig, read_cluster};
 use crate::drive::read_drive;
@@ -12,6 +12,7 @@ use crate::keys::{KeysConfig, read_keys};
 use crate::lines::WrongLine;
 use crate::node::{NodeConfig, read_node};
 use crate::submit::{SubmitConfig, read_submit};
+use crate::watch::{WatchConfig, read_watch};
 use ritas_base::{Mem, Plan};
 use std::alloc::Global;
 
@@ -28,6 +29,8 @@ pub enum Config {
     Cluster(ClusterConfig),
     /// The request that is to be handed in.
     Submit(SubmitConfig),
+    /// The log that is to be watched.
+    Watch(WatchConfig),
 }
 
 /// Why a text is no configuration.
@@ -69,6 +72,7 @@ pub fn read_config(alloc: Global, job: Job, text: &[u8]) -> Result<Config, Confi
     ensures node { job ≡ Job.Node → AnswersNode text.now result }
     ensures cluster { job ≡ Job.Cluster → AnswersCluster text.now result }
     ensures submit { job ≡ Job.Submit → AnswersSubmit text.now result }
+    ensures watch { job ≡ Job.Watch → AnswersWatch text.now result }
 {
     match job {
         Job::Replay(_) => unreachable!(),
@@ -77,5 +81,6 @@ pub fn read_config(alloc: Global, job: Job, text: &[u8]) -> Result<Config, Confi
         Job::Node => Ok(Config::Node(read_node(alloc, text)?)),
         Job::Cluster => Ok(Config::Cluster(read_cluster(alloc, text)?)),
         Job::Submit => Ok(Config::Submit(read_submit(alloc, text)?)),
+        Job::Watch => Ok(Config::Watch(read_watch(alloc, text)?)),
     }
 }

@@ -17,4 +17,6 @@ pub enum Job {
     Cluster,
     /// Hands a request to the replicas of a session.
     Submit,
+    /// Watches the log of a session.
+    Watch,
 }

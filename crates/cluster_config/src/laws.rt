@@ -9,7 +9,9 @@ ghost use Rattle.cluster_config.specs.Node.{NodeText, node_column};
 ghost use Rattle.cluster_config.specs.Cluster.{ClusterText, cluster_column};
 ghost use Rattle.cluster_config.specs.declared.submit.SubmitConfig.{SubmitConfig};
 ghost use Rattle.cluster_config.specs.Submit.{submit_column};
-ghost use Rattle.cluster_config.specs.Ranges.{IsVersionOf, FitsPlan, FitsNode, FitsCluster, FitsSubmit};
+ghost use Rattle.cluster_config.specs.declared.watch.WatchConfig.{WatchConfig};
+ghost use Rattle.cluster_config.specs.Watch.{watch_column};
+ghost use Rattle.cluster_config.specs.Ranges.{IsVersionOf, FitsPlan, FitsNode, FitsCluster, FitsSubmit, FitsWatch};
 
 /// What is read of a text is its configuration, line by line, and what is its configuration is read of it. Any other text is
 /// refused at its first line that is wrong or missing.
@@ -22,6 +24,7 @@ pub fn config_laws()
     ensures node { IsReadRight node_column }
     ensures cluster { IsReadRight cluster_column }
     ensures submit { IsReadRight submit_column }
+    ensures watch { IsReadRight watch_column }
 {}
 
 /// The numbers of lines are those that are printed: decimal digits, without a sign or a leading zero.
@@ -31,10 +34,11 @@ pub fn number_law()
     ensures { (text : List ℕ) (n : ℕ) → (numeral text ≡ Some n) ↔ ((n < 2 ^ 64) × (text ≡ decimal n)) }
 {}
 
-/// What the configurations of plans, nodes, clusters and requests keep to: a plan gives each command to at least one replica, and to no
-/// more than there are. The root service of a node and of a cluster is the sixth,
-/// a node's number is below n, and behind its n keys there are zeros. Each of the three has a peer for each of n replicas. A cluster
-/// has at most 64 requests, each for a replica below n, and no request has more than 4,088 bytes.
+/// What the configurations of plans, nodes, clusters, requests and logs that are watched keep to: a plan gives each
+/// command to at least one replica, and to no more than there are. The root service of a node and of a cluster is the
+/// sixth, a node's number is below n, and behind its n keys there are zeros. Each but a plan has a peer for each of n
+/// replicas. A cluster has at most 64 requests, each for a replica below n, and no request has more than 4,088 bytes.
+/// Of a log that is watched at least one row is waited for.
 ///
 /// It does nothing: its contract is the law.
 pub fn config_ranges()
@@ -42,6 +46,7 @@ pub fn config_ranges()
     ensures node { (text : List ℕ) (x : NodeText) → read_text node_column text ≡ Ok x → FitsNode x }
     ensures cluster { (text : List ℕ) (x : ClusterText) → read_text cluster_column text ≡ Ok x → FitsCluster x }
     ensures submit { (text : List ℕ) (x : SubmitConfig) → read_text submit_column text ≡ Ok x → FitsSubmit x }
+    ensures watch { (text : List ℕ) (x : WatchConfig) → read_text watch_column text ≡ Ok x → FitsWatch x }
 {}
 
 /// The version of frames of a schedule that is to be made, of a node and of a cluster is that of the first line, both ways.

@@ -8,6 +8,7 @@
 //! | `node` | `Job::Node` | `Config::Node` |
 //! | `cluster` | `Job::Cluster` | `Config::Cluster` |
 //! | `submit` | `Job::Submit` | `Config::Submit` |
+//! | `watch` | `Job::Watch` | `Config::Watch` |
 //!
 //! `read_words` reads the words by a command of clap: `job_of` of `specs/Words.antt` is what that command makes of any list of
 //! words, and `words_law` says that words without a hyphen name a job exactly where they are its list. The program's own name
@@ -16,40 +17,40 @@
 //! A configuration is lines in a fixed order, each a name, one space, a value and a line feed. Every line of a job stands there
 //! once, unless the table says how often, and nothing follows the last one.
 //!
-//! | Line | Value | drive | keys | node | cluster | submit |
-//! |---|---|---|---|---|---|---|
-//! | `ritas` | the version of frames, 1 or 2 | x | x | x | x | x |
-//! | `session` | 0 to 2^64 - 1 | x | x | x | x | |
-//! | `n` | 1 to 31 | x | x | x | x | x |
-//! | `f` | n is at least 3f + 1 | x | x | x | x | x |
-//! | `root` | 1 to 6, and 6 alone for node and cluster | x | | x | x | |
-//! | `vect` | `echo` or `reliable` | x | | x | x | |
-//! | `master` | a key | x | x | | x | |
-//! | `me` | below n | | | x | | |
-//! | `row` | n keys, one behind the other | | | x | | |
-//! | `coin` | a key | | | x | | |
-//! | `order` | `sweep` or `random` | x | | | | |
-//! | `attack` | `none`, `silent`, `twoface`, `flip` or `garbage` | x | | | | |
-//! | `start` | 0 to 2^64 - 1 | x | | | | |
-//! | `commands` | 0 to 10,000 | x | | | | |
-//! | `copies` | 1 to n; where the line is missing it is 1 | x | | | | |
-//! | `peer` | an address; n lines, replica 0 first | | | x | x | x |
-//! | `client` | an address | | | x | | |
-//! | `limit` | 1 to 2^64 - 1 | | | x | x | |
-//! | `until` | 0 to 2^32 - 1 | | | x | x | |
-//! | `journal` | `yes` or `no`; where the line is missing it is `no` | | | x | | |
-//! | `request` | a request; 0 to 64 lines for cluster, and one for submit | | | | x | x |
+//! | Line | Value | drive | keys | node | cluster | submit | watch |
+//! |---|---|---|---|---|---|---|---|
+//! | `ritas` | the version of frames, 1 or 2 | x | x | x | x | x | x |
+//! | `session` | 0 to 2^64 - 1 | x | x | x | x | | |
+//! | `n` | 1 to 31 | x | x | x | x | x | x |
+//! | `f` | n is at least 3f + 1 | x | x | x | x | x | x |
+//! | `root` | 1 to 6, and 6 alone for node and cluster | x | | x | x | | |
+//! | `vect` | `echo` or `reliable` | x | | x | x | | |
+//! | `master` | a key | x | x | | x | | |
+//! | `me` | below n | | | x | | | |
+//! | `row` | n keys, one behind the other | | | x | | | |
+//! | `coin` | a key | | | x | | | |
+//! | `order` | `sweep` or `random` | x | | | | | |
+//! | `attack` | `none`, `silent`, `twoface`, `flip` or `garbage` | x | | | | | |
+//! | `start` | 0 to 2^64 - 1 | x | | | | | |
+//! | `commands` | 0 to 10,000 | x | | | | | |
+//! | `copies` | 1 to n; where the line is missing it is 1 | x | | | | | |
+//! | `peer` | an address; n lines, replica 0 first | | | x | x | x | x |
+//! | `client` | an address | | | x | | | |
+//! | `limit` | 1 to 2^64 - 1 | | | x | x | | |
+//! | `until` | 0 to 2^32 - 1, and from 1 on for watch | | | x | x | | x |
+//! | `journal` | `yes` or `no`; where the line is missing it is `no` | | | x | | | |
+//! | `request` | a request; 0 to 64 lines for cluster, and one for submit | | | | x | x | |
 //!
 //! Numbers are decimal, without a sign or a leading zero (`number_law`). A key is 64 hexadecimal digits, in either case. An
 //! address is four numbers up to 255 joined by dots, a colon and a port from 1 to 65,535. A request is a replica below n, a client
 //! and a number below 2^32 each, and its bytes in 2 to 8,176 hexadecimal digits, or `-` for none, with a space between them.
 //!
-//! The columns are the values `drive_column` to `submit_column` of `specs/`; `specs/Columns.antt` says what a text of such a
+//! The columns are the values `drive_column` to `watch_column` of `specs/`; `specs/Columns.antt` says what a text of such a
 //! column's lines is, and which of its lines is the first that is wrong or missing. `read_config` answers the one or the other, for
 //! every text, and `config_laws` says that it is so. A text is looked at to its end before memory is taken, so where memory is
 //! wanting the text is right. `config_ranges` says what a configuration that is read keeps to: the copies, the places below n, as
 //! many peers as replicas, the zeros behind a row's keys, and how many requests there are, of how many bytes. `config_versions` says
-//! that the version of frames is that of the first line. Keys and requests are alike in both versions.
+//! that the version of frames is that of the first line. Keys, requests, queries and pieces are alike in both versions.
 #![tactic(auto)]
 
 mod cluster;
@@ -66,6 +67,7 @@ mod requests;
 mod submit;
 mod values;
 mod views;
+mod watch;
 mod words;
 
 pub use cluster::ClusterConfig;
@@ -76,4 +78,5 @@ pub use laws::{config_laws, config_ranges, config_versions, number_law};
 pub use node::NodeConfig;
 pub use requests::{Request, Requests};
 pub use submit::SubmitConfig;
+pub use watch::WatchConfig;
 pub use words::{WordsFault, read_words, words_law};

@@ -60,6 +60,8 @@ fn alone_named(name: &str) -> Option<Job>
         Some(Job::Cluster)
     } else if name == "submit" {
         Some(Job::Submit)
+    } else if name == "watch" {
+        Some(Job::Watch)
     } else {
         None
     }

@@ -15,16 +15,17 @@ use Rattle.cluster_config.specs.declared.node.NodeConfig.{NodeConfig}
 use Rattle.cluster_config.specs.declared.submit.SubmitConfig.{SubmitConfig}
 use Rattle.cluster_config.specs.Cluster.{ClusterText, cluster_column, cluster_text}
 use Rattle.cluster_config.specs.Columns.{read_text}
-use Rattle.cluster_config.specs.Config.{AnswersDrive, AnswersKeys, AnswersNode, AnswersCluster, AnswersSubmit as ReadsSubmit}
+use Rattle.cluster_config.specs.Config.{AnswersDrive, AnswersKeys, AnswersNode, AnswersCluster, AnswersSubmit as ReadsSubmit, AnswersWatch as ReadsWatch}
 use Rattle.cluster_config.specs.Drive.{drive_column, planned}
 use Rattle.cluster_config.specs.Keys.{keys_column}
 use Rattle.cluster_config.specs.Node.{NodeText, node_column, node_text}
 use Rattle.cluster_config.specs.Ranges.{FitsNode, FitsCluster}
 use Rattle.cluster_config.specs.Submit.{submit_column}
+use Rattle.cluster_config.specs.Watch.{watch_column}
 use Rattle.key_rows.specs.KeyRows.{key_rows}
 use Rattle.node_loop.specs.Outs.{Outs, Tells}
 use Rattle.node_session.specs.Lives.{DiskSeen}
-use Rattle.ritas.specs.Configs.{AnswersBoth, Idle, Unserved, RunsSubmit, Unasked, Asked, AnswersConfig, AnswersJob, FitsConfig, IsIdle, RefusesConfig, RefusesText}
+use Rattle.ritas.specs.Configs.{AnswersBoth, Idle, Unserved, RunsSubmit, Unasked, Asked, Unwatched, AnswersConfig, AnswersJob, FitsConfig, IsIdle, RefusesConfig, RefusesText}
 use Rattle.ritas.specs.Drives.{AnswersPlan}
 use Rattle.ritas.specs.Run.{Replies, is_linked}
 use Rattle.request_submit.specs.declared.end.SubmitEnd.{SubmitEnd}
@@ -41,17 +42,19 @@ ReadsJob jobs.Keys text result = AnswersKeys text result
 ReadsJob jobs.Node text result = AnswersNode text result
 ReadsJob jobs.Cluster text result = AnswersCluster text result
 ReadsJob jobs.Submit text result = ReadsSubmit text result
+ReadsJob jobs.Watch text result = ReadsWatch text result
 
 pub reads_job : (job : Job) (text : List ℕ) (result : Result Config ConfigFault) → ((what : What) → job ≢ jobs.Replay what)
     → ((what : DriveWhat) → job ≡ jobs.Drive what → AnswersDrive text result) → (job ≡ jobs.Keys → AnswersKeys text result)
-    → (job ≡ jobs.Node → AnswersNode text result) → (job ≡ jobs.Cluster → AnswersCluster text result) → (job ≡ jobs.Submit → ReadsSubmit text result)
+    → (job ≡ jobs.Node → AnswersNode text result) → (job ≡ jobs.Cluster → AnswersCluster text result) → (job ≡ jobs.Submit → ReadsSubmit text result) → (job ≡ jobs.Watch → ReadsWatch text result)
     → ReadsJob job text result
-reads_job (jobs.Replay what) text result other drive keys node cluster submit = absurd (other what refl)
-reads_job (jobs.Drive what) text result other drive keys node cluster submit = drive what refl
-reads_job jobs.Keys text result other drive keys node cluster submit = keys refl
-reads_job jobs.Node text result other drive keys node cluster submit = node refl
-reads_job jobs.Cluster text result other drive keys node cluster submit = cluster refl
-reads_job jobs.Submit text result other drive keys node cluster submit = submit refl
+reads_job (jobs.Replay what) text result other drive keys node cluster submit watch = absurd (other what refl)
+reads_job (jobs.Drive what) text result other drive keys node cluster submit watch = drive what refl
+reads_job jobs.Keys text result other drive keys node cluster submit watch = keys refl
+reads_job jobs.Node text result other drive keys node cluster submit watch = node refl
+reads_job jobs.Cluster text result other drive keys node cluster submit watch = cluster refl
+reads_job jobs.Submit text result other drive keys node cluster submit watch = submit refl
+reads_job jobs.Watch text result other drive keys node cluster submit watch = watch refl
 
 -- ---- ranges
 
@@ -63,26 +66,37 @@ fits_config (jobs.Drive what) text (configs.Keys c) none node cluster = absurd n
 fits_config (jobs.Drive what) text (configs.Node c) none node cluster = absurd none
 fits_config (jobs.Drive what) text (configs.Cluster c) none node cluster = absurd none
 fits_config (jobs.Drive what) text (configs.Submit c) none node cluster = absurd none
+fits_config (jobs.Drive what) text (configs.Watch c) none node cluster = absurd none
 fits_config jobs.Keys text (configs.Keys c) reads node cluster = tt
 fits_config jobs.Keys text (configs.Drive c) none node cluster = absurd none
 fits_config jobs.Keys text (configs.Node c) none node cluster = absurd none
 fits_config jobs.Keys text (configs.Cluster c) none node cluster = absurd none
 fits_config jobs.Keys text (configs.Submit c) none node cluster = absurd none
+fits_config jobs.Keys text (configs.Watch c) none node cluster = absurd none
 fits_config jobs.Node text (configs.Node c) reads node cluster = (refl, node (node_text c) reads)
 fits_config jobs.Node text (configs.Drive c) none node cluster = absurd none
 fits_config jobs.Node text (configs.Keys c) none node cluster = absurd none
 fits_config jobs.Node text (configs.Cluster c) none node cluster = absurd none
 fits_config jobs.Node text (configs.Submit c) none node cluster = absurd none
+fits_config jobs.Node text (configs.Watch c) none node cluster = absurd none
 fits_config jobs.Cluster text (configs.Cluster c) reads node cluster = cluster (cluster_text c) reads
 fits_config jobs.Cluster text (configs.Drive c) none node cluster = absurd none
 fits_config jobs.Cluster text (configs.Keys c) none node cluster = absurd none
 fits_config jobs.Cluster text (configs.Node c) none node cluster = absurd none
 fits_config jobs.Cluster text (configs.Submit c) none node cluster = absurd none
+fits_config jobs.Cluster text (configs.Watch c) none node cluster = absurd none
 fits_config jobs.Submit text (configs.Submit c) reads node cluster = tt
 fits_config jobs.Submit text (configs.Drive c) none node cluster = absurd none
 fits_config jobs.Submit text (configs.Keys c) none node cluster = absurd none
 fits_config jobs.Submit text (configs.Node c) none node cluster = absurd none
 fits_config jobs.Submit text (configs.Cluster c) none node cluster = absurd none
+fits_config jobs.Submit text (configs.Watch c) none node cluster = absurd none
+fits_config jobs.Watch text (configs.Watch c) reads node cluster = tt
+fits_config jobs.Watch text (configs.Drive c) none node cluster = absurd none
+fits_config jobs.Watch text (configs.Keys c) none node cluster = absurd none
+fits_config jobs.Watch text (configs.Node c) none node cluster = absurd none
+fits_config jobs.Watch text (configs.Cluster c) none node cluster = absurd none
+fits_config jobs.Watch text (configs.Submit c) none node cluster = absurd none
 
 -- ---- answers
 
@@ -118,6 +132,7 @@ module _ {K : Type 0} (tells : Tells) (taken : K → List ℕ) (old new : K) (ba
   idle_job jobs.Node idle same link disk = idle_text node_column node_text tells.tape taken old new status text (still × undisked) _ idle same (link, disk) (λ node. idle_node node node.journal idle same link disk)
   idle_job jobs.Cluster idle same link disk = idle_text cluster_column cluster_text tells.tape taken old new status text (still × undisked) _ idle same (link, disk) (λ cluster. Unserved idle (same, link))
   idle_job jobs.Submit idle same link disk = idle_text submit_column (λ submit. submit) tells.tape taken old new status text (still × undisked) _ idle same (link, disk) (λ submit. Unasked idle (same, link))
+  idle_job jobs.Watch idle same link disk = idle_text watch_column (λ watch. watch) tells.tape taken old new status text (still × undisked) _ idle same (link, disk) (λ watch. Unwatched idle (same, link))
 
   -- the text is too long
   pub long_job : (job : Job) → text_limit < length text → Replies tells.tape taken old new status 7 (limit_text text_limit) → still × undisked → IsJobAnswered job
@@ -127,6 +142,7 @@ module _ {K : Type 0} (tells : Tells) (taken : K → List ℕ) (old new : K) (ba
   long_job jobs.Node over replies link = long_text node_column node_text tells.tape taken old new status text (still × undisked) _ over replies link
   long_job jobs.Cluster over replies link = long_text cluster_column cluster_text tells.tape taken old new status text (still × undisked) _ over replies link
   long_job jobs.Submit over replies link = long_text submit_column (λ submit. submit) tells.tape taken old new status text (still × undisked) _ over replies link
+  long_job jobs.Watch over replies link = long_text watch_column (λ watch. watch) tells.tape taken old new status text (still × undisked) _ over replies link
 
   -- a line is wrong, or memory ran out
   pub fault_job : (job : Job) (fault : ConfigFault) → ReadsJob job text (Err fault) → length text ≤ text_limit → RefusesConfig tells.tape taken old new status fault → still × undisked → IsJobAnswered job
@@ -137,6 +153,7 @@ module _ {K : Type 0} (tells : Tells) (taken : K → List ℕ) (old new : K) (ba
   fault_job jobs.Node (config_faults.Line k) reads within refuses link = wrong_text node_column node_text tells.tape taken old new status text (still × undisked) _ within k reads refuses link
   fault_job jobs.Cluster (config_faults.Line k) reads within refuses link = wrong_text cluster_column cluster_text tells.tape taken old new status text (still × undisked) _ within k reads refuses link
   fault_job jobs.Submit (config_faults.Line k) reads within refuses link = wrong_text submit_column (λ submit. submit) tells.tape taken old new status text (still × undisked) _ within k reads refuses link
+  fault_job jobs.Watch (config_faults.Line k) reads within refuses link = wrong_text watch_column (λ watch. watch) tells.tape taken old new status text (still × undisked) _ within k reads refuses link
 
   -- the job was done
   pub done_job : (job : Job) (config : Config) → ReadsJob job text (Ok config) → length text ≤ text_limit → IsConfigAnswered job config → IsJobAnswered job
@@ -147,30 +164,42 @@ module _ {K : Type 0} (tells : Tells) (taken : K → List ℕ) (old new : K) (ba
   done_job (jobs.Drive what) (configs.Node c) none within answers = absurd none
   done_job (jobs.Drive what) (configs.Cluster c) none within answers = absurd none
   done_job (jobs.Drive what) (configs.Submit c) none within answers = absurd none
+  done_job (jobs.Drive what) (configs.Watch c) none within answers = absurd none
   done_job jobs.Keys (configs.Keys keys) reads within answers =
       right_text keys_column (λ keys. keys) tells.tape taken old new status text (still × undisked) _ (λ c d e. e) within keys reads answers
   done_job jobs.Keys (configs.Drive c) none within answers = absurd none
   done_job jobs.Keys (configs.Node c) none within answers = absurd none
   done_job jobs.Keys (configs.Cluster c) none within answers = absurd none
   done_job jobs.Keys (configs.Submit c) none within answers = absurd none
+  done_job jobs.Keys (configs.Watch c) none within answers = absurd none
   done_job jobs.Node (configs.Node node) reads within answers =
       right_text node_column node_text tells.tape taken old new status text (still × undisked) _ one_node within node reads answers
   done_job jobs.Node (configs.Drive c) none within answers = absurd none
   done_job jobs.Node (configs.Keys c) none within answers = absurd none
   done_job jobs.Node (configs.Cluster c) none within answers = absurd none
   done_job jobs.Node (configs.Submit c) none within answers = absurd none
+  done_job jobs.Node (configs.Watch c) none within answers = absurd none
   done_job jobs.Cluster (configs.Cluster cluster) reads within answers =
       right_text cluster_column cluster_text tells.tape taken old new status text (still × undisked) _ one_cluster within cluster reads answers
   done_job jobs.Cluster (configs.Drive c) none within answers = absurd none
   done_job jobs.Cluster (configs.Keys c) none within answers = absurd none
   done_job jobs.Cluster (configs.Node c) none within answers = absurd none
   done_job jobs.Cluster (configs.Submit c) none within answers = absurd none
+  done_job jobs.Cluster (configs.Watch c) none within answers = absurd none
   done_job jobs.Submit (configs.Submit submit) reads within answers =
       right_text submit_column (λ submit. submit) tells.tape taken old new status text (still × undisked) _ (λ c d e. e) within submit reads answers
   done_job jobs.Submit (configs.Drive c) none within answers = absurd none
   done_job jobs.Submit (configs.Keys c) none within answers = absurd none
   done_job jobs.Submit (configs.Node c) none within answers = absurd none
   done_job jobs.Submit (configs.Cluster c) none within answers = absurd none
+  done_job jobs.Submit (configs.Watch c) none within answers = absurd none
+  done_job jobs.Watch (configs.Watch watch) reads within answers =
+      right_text watch_column (λ watch. watch) tells.tape taken old new status text (still × undisked) _ (λ c d e. e) within watch reads answers
+  done_job jobs.Watch (configs.Drive c) none within answers = absurd none
+  done_job jobs.Watch (configs.Keys c) none within answers = absurd none
+  done_job jobs.Watch (configs.Node c) none within answers = absurd none
+  done_job jobs.Watch (configs.Cluster c) none within answers = absurd none
+  done_job jobs.Watch (configs.Submit c) none within answers = absurd none
 
   -- a job that uses no link
   pub done_quiet : (job : Job) (config : Config) → ReadsJob job text (Ok config) → IsConfigAnswered job config → is_linked job ≡ false → still
@@ -180,14 +209,17 @@ module _ {K : Type 0} (tells : Tells) (taken : K → List ℕ) (old new : K) (ba
   done_quiet (jobs.Drive what) (configs.Node c) none answers quiet = absurd none
   done_quiet (jobs.Drive what) (configs.Cluster c) none answers quiet = absurd none
   done_quiet (jobs.Drive what) (configs.Submit c) none answers quiet = absurd none
+  done_quiet (jobs.Drive what) (configs.Watch c) none answers quiet = absurd none
   done_quiet jobs.Keys (configs.Keys keys) reads answers quiet = answers.1
   done_quiet jobs.Keys (configs.Drive c) none answers quiet = absurd none
   done_quiet jobs.Keys (configs.Node c) none answers quiet = absurd none
   done_quiet jobs.Keys (configs.Cluster c) none answers quiet = absurd none
   done_quiet jobs.Keys (configs.Submit c) none answers quiet = absurd none
+  done_quiet jobs.Keys (configs.Watch c) none answers quiet = absurd none
   done_quiet jobs.Node config reads answers quiet = absurd (cc)
   done_quiet jobs.Cluster config reads answers quiet = absurd (cc)
   done_quiet jobs.Submit config reads answers quiet = absurd (cc)
+  done_quiet jobs.Watch config reads answers quiet = absurd (cc)
 
   -- a schedule that was made: nothing is written at 8
   pub done_plan : (what : DriveWhat) (config : Config) → AnswersDrive text (Ok config) → IsConfigAnswered (jobs.Drive what) config → status ≡ 8 → new ≡ old
@@ -196,6 +228,7 @@ module _ {K : Type 0} (tells : Tells) (taken : K → List ℕ) (old new : K) (ba
   done_plan what (configs.Node c) none answers eight = absurd none
   done_plan what (configs.Cluster c) none answers eight = absurd none
   done_plan what (configs.Submit c) none answers eight = absurd none
+  done_plan what (configs.Watch c) none answers eight = absurd none
 
   -- the text wasn't read whole
   pub text_job : (job : Job) (fault : ReadFault) → (fault ≢ read_faults.Failed → fault ≢ read_faults.Mem → fault ≡ read_faults.TooLong → text_limit < length text)

@@ -10,6 +10,9 @@ use Rattle.outside.specs.declared.whole.ReadFault.TheVariants as read_faults
 use Rattle.request_submit.specs.declared.end.SubmitEnd.{SubmitEnd}
 use Rattle.request_submit.specs.declared.end.SubmitEnd.TheVariants as submit_ends
 use Rattle.request_submit.specs.Submitting.{HasSubmitCause}
+use Rattle.log_watch.specs.declared.end.WatchEnd.{WatchEnd}
+use Rattle.log_watch.specs.declared.end.WatchEnd.TheVariants as watch_ends
+use Rattle.log_watch.specs.Watching.{HasWatchCause}
 use Rattle.schedule_replay.specs.Replay.{CountsIf}
 use Rattle.ritas.specs.Run.{LinkCounts}
 use Rattle.ritas.specs.Configs.{RefusesText, TakesText}
@@ -51,6 +54,14 @@ submit_counts x y status (submit_ends.Position position) six eight cause = link_
 submit_counts x y status submit_ends.NoPosition six eight cause = link_stood x y status (λ e. let same = six.0 e in cc) cause
 submit_counts x y status submit_ends.LinkFault six eight cause = link_failed x y status (six.1 refl) cause
 submit_counts x y status submit_ends.Mem six eight cause = link_short x y status (eight refl) cause
+
+-- those of a log that was watched
+pub watch_counts : (x y : FaultCounts) (status : ℕ) (end : WatchEnd) → (status ≡ 6) ↔ (end ≡ watch_ends.LinkFault) → (end ≡ watch_ends.Mem → status ≡ 8) → HasWatchCause x y end
+    → LinkCounts x y status
+watch_counts x y status watch_ends.Rows six eight cause = link_stood x y status (λ e. let same = six.0 e in cc) cause
+watch_counts x y status watch_ends.End six eight cause = link_stood x y status (λ e. let same = six.0 e in cc) cause
+watch_counts x y status watch_ends.LinkFault six eight cause = link_failed x y status (six.1 refl) cause
+watch_counts x y status watch_ends.Mem six eight cause = link_short x y status (eight refl) cause
 
 -- ---- an input that has a text
 

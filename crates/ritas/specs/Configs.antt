@@ -15,6 +15,7 @@ use Rattle.cluster_config.specs.declared.job.Job.{Job}
 use Rattle.cluster_config.specs.declared.job.Job.TheVariants as jobs
 use Rattle.cluster_config.specs.declared.node.NodeConfig.{NodeConfig}
 use Rattle.cluster_config.specs.declared.submit.SubmitConfig.{SubmitConfig}
+use Rattle.cluster_config.specs.declared.watch.WatchConfig.{WatchConfig}
 use Rattle.cluster_config.specs.Cluster.{cluster_column, cluster_text}
 use Rattle.cluster_config.specs.Columns.{Column, read_text}
 use Rattle.cluster_config.specs.Drive.{drive_column, planned}
@@ -22,6 +23,8 @@ use Rattle.cluster_config.specs.Keys.{keys_column}
 use Rattle.cluster_config.specs.Node.{node_column, node_text}
 use Rattle.cluster_config.specs.Ranges.{FitsNode, FitsCluster}
 use Rattle.cluster_config.specs.Submit.{submit_column}
+use Rattle.cluster_config.specs.Watch.{watch_column}
+use Rattle.command_log.specs.Rows.{Row}
 use Rattle.schedule_replay.specs.Layers.{setting_of}
 use Rattle.key_rows.specs.KeyRows.{key_rows}
 use Rattle.event_journal.specs.Journal.{OpensAs}
@@ -38,9 +41,11 @@ use Rattle.node_loop.specs.Deeds.{Deed}
 use Rattle.node_session.specs.Session.{TookAll, IsTrueSession, ServesSession}
 use Rattle.request_submit.specs.declared.end.SubmitEnd.{SubmitEnd}
 use Rattle.request_submit.specs.Submitting.{Submits}
+use Rattle.log_watch.specs.declared.end.WatchEnd.{WatchEnd}
+use Rattle.log_watch.specs.Watching.{Watches}
 use Rattle.ritas.specs.Drives.{AnswersPlan}
 use Rattle.ritas.specs.Run.{Replies}
-use Rattle.ritas.specs.Statuses.{text_limit, limit_text, line_text, end_status, journal_status, journal_text, submit_status, submit_text}
+use Rattle.ritas.specs.Statuses.{text_limit, limit_text, line_text, end_status, journal_status, journal_text, submit_status, submit_text, watch_status, watch_text}
 
 -- ---- texts
 
@@ -112,6 +117,14 @@ pub data RunsSubmit {K : Type 0} (config : SubmitConfig) (tells : Tells) (taken 
       tells.link base.told now.told base.link_faults now.link_faults end
       → Replies tells.tape taken old new status (submit_status end) (submit_text end) → RunsSubmit config tells taken old new base now untouched status
 
+-- A log was watched, and the lines of its rows were written, which are those of an observer over the link's replies. Or
+-- nothing was done.
+pub data RunsWatch {K : Type 0} (config : WatchConfig) (tells : Tells) (taken : K → List ℕ) (old new : K) (base now : Outs) (untouched : Type 0) (status : ℕ) : Type 0 where
+  Unwatched : IsIdle status → untouched → RunsWatch config tells taken old new base now untouched status
+  Watched : (end : WatchEnd) (rows : List Row)
+      → Watches config.p config.peers config.until rows tells.link base.told now.told base.link_faults now.link_faults end
+      → Replies tells.tape taken old new status (watch_status end) (watch_text rows end) → RunsWatch config tells taken old new base now untouched status
+
 -- where the status of a session is 0, these events were served, and these calls of the link made, for these reasons, after the earlier ones of
 -- lives before
 pub record HasServed (session : Session) (earlier : List Deed) (tells : Tells) (base now : Outs) : Type 0 where
@@ -157,6 +170,7 @@ module _ {K : Type 0} (tells : Tells) (taken : K → List ℕ) (old new : K) (ba
   AnswersConfig job (configs.Node node) = AnswersBoth node tells taken old new base now d still undisked status node.journal
   AnswersConfig job (configs.Cluster cluster) = AnswersSession (cluster_session cluster) (map first_item cluster.requests) tells base now ((new ≡ old) × still) status
   AnswersConfig job (configs.Submit submit) = RunsSubmit submit tells taken old new base now ((new ≡ old) × still) status
+  AnswersConfig job (configs.Watch watch) = RunsWatch watch tells taken old new base now ((new ≡ old) × still) status
 
   -- a text of these lines is answered by what comes of the configuration that it says
   abbrev pub AnswersLines : {X C : Type 0} → Column X → (C → X) → (C → Config) → List ℕ → Job → Type 0
@@ -170,3 +184,4 @@ module _ {K : Type 0} (tells : Tells) (taken : K → List ℕ) (old new : K) (ba
   AnswersJob text jobs.Node = AnswersLines node_column node_text configs.Node text jobs.Node
   AnswersJob text jobs.Cluster = AnswersLines cluster_column cluster_text configs.Cluster text jobs.Cluster
   AnswersJob text jobs.Submit = AnswersLines submit_column (λ submit. submit) configs.Submit text jobs.Submit
+  AnswersJob text jobs.Watch = AnswersLines watch_column (λ watch. watch) configs.Watch text jobs.Watch

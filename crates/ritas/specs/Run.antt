@@ -13,7 +13,7 @@ use Rattle.ritas_base.specs.Members.{has_member}
 use Rattle.schedule_replay.specs.Replay.{CountsIf, text, asked_of}
 use Rattle.schedule_replay.specs.Vectors.{vectors_text, VectorsAgree}
 use Rattle.cluster_config.specs.declared.job.Job.{Job}
-use Rattle.cluster_config.specs.declared.job.Job.TheVariants.{Replay, Drive, Keys, Node, Cluster, Submit}
+use Rattle.cluster_config.specs.declared.job.Job.TheVariants.{Replay, Drive, Keys, Node, Cluster, Submit, Watch}
 use Rattle.cluster_config.specs.Words.{job_of}
 use Rattle.ritas.specs.Statuses.{status_of, fault_text, fault_status}
 
@@ -33,6 +33,7 @@ is_linked Keys = false
 is_linked Node = true
 is_linked Cluster = true
 is_linked Submit = true
+is_linked Watch = true
 
 -- ---- statuses
 

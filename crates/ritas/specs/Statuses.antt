@@ -9,13 +9,16 @@ use Rattle.world_model.specs.declared.audit.Audit.{Audit}
 use Rattle.world_model.specs.declared.audit.Audit.TheVariants as audits
 use Rattle.world_model.specs.Audit.{audit_of}
 use Rattle.schedule_replay.specs.Layers.{setting_of}
-use Rattle.schedule_replay.specs.Report.{end_of_line}
+use Rattle.schedule_replay.specs.Report.{end_of_line, row_lines}
 use Rattle.event_journal.specs.declared.fault.JournalFault.{JournalFault}
 use Rattle.event_journal.specs.declared.fault.JournalFault.TheVariants as journal_faults
 use Rattle.node_loop.specs.declared.end.ServeEnd.{ServeEnd}
 use Rattle.node_loop.specs.declared.end.ServeEnd.TheVariants as serve_ends
 use Rattle.request_submit.specs.declared.end.SubmitEnd.{SubmitEnd}
 use Rattle.request_submit.specs.declared.end.SubmitEnd.TheVariants as submit_ends
+use Rattle.command_log.specs.declared.row.LogRow.{LogRow}
+use Rattle.log_watch.specs.declared.end.WatchEnd.{WatchEnd}
+use Rattle.log_watch.specs.declared.end.WatchEnd.TheVariants as watch_ends
 
 -- 0 where the audit holds, and else 1
 abbrev pub audit_status : Audit → ℕ
@@ -31,7 +34,7 @@ status_of h es = audit_status (audit_of (setting_of h) es)
 -- ---- what is written where no schedule was replayed
 
 abbrev pub usage : List ℕ
-usage = codes "usage: ritas replay report|frames|vectors, drive report|schedule, keys, node, cluster, submit" ++ end_of_line
+usage = codes "usage: ritas replay report|frames|vectors, drive report|schedule, keys, node, cluster, submit, watch" ++ end_of_line
 
 abbrev pub input_line : List ℕ → ℕ → List ℕ
 input_line name place = codes "input " ++ (name ++ (codes " at " ++ (decimal place ++ end_of_line)))
@@ -73,7 +76,7 @@ text_limit = 1048576
 abbrev pub line_text : ℕ → List ℕ
 line_text line = codes "input line " ++ (decimal line ++ end_of_line)
 
--- ---- serving and submitting
+-- ---- serving, submitting and watching
 
 -- the status of serving that ended so
 abbrev pub end_status : ServeEnd → ℕ
@@ -113,3 +116,16 @@ submit_text (submit_ends.Position position) = codes "position " ++ (decimal posi
 submit_text submit_ends.NoPosition = codes "no position" ++ end_of_line
 submit_text submit_ends.LinkFault = []
 submit_text submit_ends.Mem = []
+
+-- the status and the lines of a log that was watched: those of its rows, as in a report
+abbrev pub watch_status : WatchEnd → ℕ
+watch_status watch_ends.Rows = 0
+watch_status watch_ends.End = 1
+watch_status watch_ends.LinkFault = 6
+watch_status watch_ends.Mem = 8
+
+abbrev pub watch_text : List LogRow → WatchEnd → List ℕ
+watch_text rows watch_ends.Rows = row_lines rows
+watch_text rows watch_ends.End = row_lines rows
+watch_text rows watch_ends.LinkFault = []
+watch_text rows watch_ends.Mem = []

@@ -15,6 +15,7 @@ use crate::keys::run_keys;
 use crate::refusals::{refuse_config, refuse_text};
 use crate::requests::run_submit;
 use crate::sessions::{run_cluster, run_node};
+use crate::watches::run_watch;
 use cluster_config::{Config, Job, config_ranges, read_config};
 use outside::{Disk, Link, Sink, Source, read_whole};
 use ritas_base::Plan;
@@ -35,7 +36,9 @@ fn drive_plan<K: Sink>(alloc: Global, job: Job, plan: &Plan, output: &mut K) -> 
 {
     match job {
         Job::Drive(what) => make(alloc, plan, output, what),
-        Job::Replay(_) | Job::Keys | Job::Node | Job::Cluster | Job::Submit => unreachable!(),
+        Job::Replay(_) | Job::Keys | Job::Node | Job::Cluster | Job::Submit | Job::Watch => {
+            unreachable!()
+        }
     }
 }
 
@@ -64,6 +67,7 @@ fn do_config<R: Net + Wait, K: Sink, L: Link, D: Disk>(
         Config::Node(node) => run_node(host.rt, host.alloc, node, output, link, disk),
         Config::Cluster(cluster) => run_cluster(host.rt, host.alloc, cluster, output, link),
         Config::Submit(submit) => run_submit(host.rt, host.alloc, &submit, output, link),
+        Config::Watch(watch) => run_watch(host.rt, host.alloc, &watch, output, link),
     }
 }
 

@@ -1,5 +1,5 @@
 //! Replays schedules of events that happen to a world of replicas, makes such schedules, and writes what came of them; deals keys, serves
-//! nodes and clusters, and hands requests to them.
+//! nodes and clusters, hands requests to them, and watches their logs.
 #![tactic(auto)]
 
 mod configs;
@@ -11,6 +11,7 @@ mod refusals;
 mod requests;
 mod run;
 mod sessions;
+mod watches;
 
 use outside::{FileDisk, FromRead, ToWrite};
 use ritas_base::Mem;

@@ -46,7 +46,7 @@ use std::net::Net;
 use std::sync::Wait;
 
 const USAGE: &[u8] =
-    b"usage: ritas replay report|frames|vectors, drive report|schedule, keys, node, cluster, submit\n";
+    b"usage: ritas replay report|frames|vectors, drive report|schedule, keys, node, cluster, submit, watch\n";
 
 /// Writes a text and gives a status, or 5 where the output failed.
 pub(crate) fn finish<K: Sink>(output: &mut K, text: &[u8], status: u8) -> u8
@@ -160,7 +160,7 @@ fn work<R: Net + Wait, S: Source, K: Sink, L: Link, D: Disk>(
 {
     match job {
         Job::Replay(what) => reply(host.alloc, input, output, what),
-        Job::Drive(_) | Job::Keys | Job::Node | Job::Cluster | Job::Submit => {
+        Job::Drive(_) | Job::Keys | Job::Node | Job::Cluster | Job::Submit | Job::Watch => {
             do_read(host, job, input, output, link, disk)
         }
     }
@@ -181,6 +181,9 @@ fn work<R: Net + Wait, S: Source, K: Sink, L: Link, D: Disk>(
 ///   whose configuration says so keeps a journal on the disk, and begins with what it kept before.
 /// - `submit` starts the link with the addresses of nodes, hands a request to each, and writes the position that f + 1 of them reply, with
 ///   0, or that there was none, with 1.
+/// - `watch` starts the link with the addresses of nodes, asks each for the rows of its log, and takes a row once f + 1 of
+///   them gave it. It writes the lines of these rows, as in a report: with 0 as soon as there are as many as the
+///   configuration wants, and with 1 where the link ends before that.
 ///
 /// A file that isn't a schedule is answered with a line that names its first fault and the place of it, and 3, or 7 for one that is longer
 /// than 64 MiB. A text that isn't the job's configuration is answered with a line that names its first wrong or missing line, and 3, or 7
@@ -188,8 +191,8 @@ fn work<R: Net + Wait, S: Source, K: Sink, L: Link, D: Disk>(
 /// line that names that limit, and 7. A journal that is another session's, or broken, is answered with a line that names the place, and 3,
 /// and one that is longer than 64 MiB with the limit, and 7; where it becomes so long while it is kept, it is 7 without a line. Other words
 /// are answered with a line on usage, and 2. It is 4 where a call of the input failed, and then nothing was written; 5 where one of the
-/// output failed, which took a front of the text; 6 where one of the link failed, which only `node`, `cluster` and `submit` use; and 9
-/// where one of the disk failed: then a front of the file was written, or nothing where the journal couldn't be opened. By its count of
+/// output failed, which took a front of the text; 6 where one of the link failed, which only `node`, `cluster`, `submit` and `watch`
+/// use; and 9 where one of the disk failed: then a front of the file was written, or nothing where the journal couldn't be opened. By its count of
 /// faults just one call failed then, and none at any other status. It is 8 where memory ran out: then nothing was written of a report, of
 /// vectors or of a schedule that was made, and a front of frames or of what was served.
 ///
@@ -228,7 +231,7 @@ pub fn run<R: Net + Wait, S: Source, K: Sink, L: Link, D: Disk>(
     ensures undisked { (job : Job) → job_of (map string_bytes words.now.items) ≡ Some job → job ≢ Job.Node → disk.new ≡ disk.old }
 
     // At words that name no job the usage line is written, with status 2, unless the output fails or memory runs out, and neither the input
-    // nor the link is touched. Only the jobs that serve or submit touch the link, and only they end with 6.
+    // nor the link is touched. Only the jobs that serve, submit or watch touch the link, and only they end with 6.
     ensures usage { job_of (map string_bytes words.now.items) ≡ None
         → Replies K.tells K.taken output.old output.new result 2 usage }
     ensures others { job_of (map string_bytes words.now.items) ≡ None → (result ≡ 2) ⊎ (result ≡ 5) ⊎ (result ≡ 8) }
@@ -271,6 +274,8 @@ pub fn run<R: Net + Wait, S: Source, K: Sink, L: Link, D: Disk>(
     // Of the text of another job's configuration: what comes of what it says; of a text that isn't one, or is too long, the line of its
     // first fault, or of the limit, and the link isn't touched. A plan's schedule is written, or the line of the limit that it passes
     // first, and at 0 its replicas agree; keys are written; a node or a cluster is served; a request is handed in, and its position written.
+    // A log is watched, and the rows that are written are those of an observer over the link's replies (`RunsWatch`): the link was given the
+    // queries of `Watches` alone, in their order, and a front of them where it failed or memory ran out.
     ensures configured { (job : Job) → job_of (map string_bytes words.now.items) ≡ Some job → S.tells ≡ true
         → AnswersJob (tells_of K.Sink L.Link) K.taken output.old output.new
         (outs_of K.Sink L.Link output.old link.old)
