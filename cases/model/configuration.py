@@ -23,6 +23,7 @@ LINES = {
     "node": "ritas session n f root vect me row coin peer* client limit until journal?",
     "cluster": "ritas session n f root vect master peer* limit until request+",
     "submit": "ritas n f peer* request",
+    "watch": "ritas n f peer* until",
 }
 
 
@@ -90,7 +91,7 @@ def value_of(job: str, name: str, text: str, values: dict[str, Any]) -> Any:
     ranges = {
         "ritas": (1, 2), "session": (0, MOST_U64), "n": (1, MOST_REPLICAS), "f": (0, (n - 1) // 3), "me": (0, n - 1),
         "root": (1 if job == "drive" else ATOMIC, ATOMIC), "start": (0, MOST_U64), "commands": (0, MOST_COMMANDS), "copies": (1, n),
-        "limit": (1, MOST_U64), "until": (0, MOST_U32),
+        "limit": (1, MOST_U64), "until": (1 if job == "watch" else 0, MOST_U32),
     }
     words = {"vect": ("echo", "reliable"), "order": ORDERS, "attack": ATTACKS, "journal": ("yes", "no")}
     digits = {"master": 64, "coin": 64, "row": 64 * n}

@@ -4,8 +4,8 @@ from __future__ import annotations
 from typing import Optional
 
 VALUES = {"replay": ("report", "frames", "vectors"), "drive": ("report", "schedule")}
-ALONE = "keys", "node", "cluster", "submit"
-USAGE = b"usage: ritas replay report|frames|vectors, drive report|schedule, keys, node, cluster, submit\n"
+ALONE = "keys", "node", "cluster", "submit", "watch"
+USAGE = b"usage: ritas replay report|frames|vectors, drive report|schedule, keys, node, cluster, submit, watch\n"
 
 Job = tuple[str, str]  # a command and its value, which may be empty
 
