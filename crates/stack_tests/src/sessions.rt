@@ -29,6 +29,9 @@ const EVENTS: usize = 14 + 21 * 2;
 
 const ALL_EVENTS: usize = 14 + 30 * 2;
 
+// The piece of a log that has the row of that request.
+const PIECE: &[u8] = b"\x03\0\0\0\0\x01\0\0\0\0\0\0\0\0\x07\0\0\0\0\0\x02hi";
+
 // The address of the one replica.
 fn peers(alloc: Global) -> Result<Texts, Mem>
     ensures { IfOk result (λ peers. length peers ≡ 1) }
@@ -109,7 +112,26 @@ fn requests(alloc: Global, many: u8) -> Result<Vec<LinkItem>, Mem>
     Ok(items)
 }
 
+// A request of client 7, and then a query for the first rows by another connection.
+fn request_and_query(alloc: Global) -> Result<Vec<LinkItem>, Mem>
+    ensures { IfOk result (λ items. All IsShort items.items) }
+{
+    let mut items = requests(alloc, 1)?;
+    let bytes = Bytes::from_slice(alloc, b"L\0\0\0\0")?;
+    items.push(LinkItem::Client {
+        at: 0,
+        conn: 2,
+        bytes,
+    })?;
+    Ok(items)
+}
+
 // The large calls stand in functions of their own that promise nothing, so that what makes several has a short proof.
+
+// A link that gives a request and a query.
+fn asking_and_querying(alloc: Global) -> Result<MemLink, Mem> {
+    MemLink::new(alloc, &request_and_query(alloc)?, &[])
+}
 
 // A link that gives so many requests, and whose calls of these numbers fail.
 fn asking(alloc: Global, many: u8, fails: &[u64]) -> Result<MemLink, Mem> {
@@ -163,6 +185,14 @@ fn count_replies(link: &MemLink) -> usize {
     link.replies().len()
 }
 
+// Whether this is the reply at this place: to which connection it is, and its bytes.
+fn is_reply(link: &MemLink, place: usize, conn: u32, bytes: &[u8]) -> bool {
+    match link.replies().get(place) {
+        Some(reply) => reply.to == conn && reply.bytes.as_slice() == bytes,
+        None => false,
+    }
+}
+
 fn wrote_the_same(one: &MemSink, other: &MemSink) -> bool {
     one.taken() == other.taken()
 }
@@ -196,6 +226,21 @@ fn each_call_of_the_link_fails(rt: HostRuntime) -> Result<(), Fail> {
         assert!(rt; (count_written(&output) == NODE_HEADER + ALL_EVENTS + 1) == (call == 5));
         assert!(rt; count_replies(&link) == usize::from(call > 3));
     }
+    Ok(())
+}
+
+// A query is answered at once by a piece of the log, and the file is that of the request alone.
+#[test]
+fn answers_a_query(rt: HostRuntime) -> Result<(), Fail> {
+    let mut link = asking_and_querying(rt.alloc())?;
+    let mut output = sink(rt.alloc())?;
+    let mut disk = empty(rt.alloc(), &[])?;
+    let end = live(&rt, rt.alloc(), false, 0, &mut link, &mut output, &mut disk);
+    assert!(rt; end == Ok(ServeEnd::End));
+    assert!(rt; count_written(&output) == NODE_HEADER + ALL_EVENTS + 1);
+    assert!(rt; count_replies(&link) == 2);
+    assert!(rt; is_reply(&link, 0, 3, b"\x01\0\0\0\x07\0\0\0\0\0\0\0\0"));
+    assert!(rt; is_reply(&link, 1, 2, PIECE));
     Ok(())
 }
 
