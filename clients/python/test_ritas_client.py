@@ -1,7 +1,6 @@
 """Tests of `ritas_client`: `python3 -m unittest` in this folder.
 
-Most are over nodes that are played. Those over real ones run the repository's program (`RITAS` may name another one). They are skipped if it can't be
-run, or doesn't answer queries yet.
+Most are over nodes that are played. Those over real ones run the repository's program (`RITAS` may name another one). They are skipped if it can't be run.
 """
 from __future__ import annotations
 
@@ -550,18 +549,10 @@ def serving_module() -> types.ModuleType:
     return serving
 
 
-def answers_queries(port: int) -> bool:
-    """Whether the node at this port answers a query by a piece."""
-    with socket.create_connection((played.HOST, port), timeout=SOON) as link:
-        link.sendall(played.framed(query_message(0)))
-        return next(played.messages_of(link), b"")[:1] == b"\3"
-
-
 class Real(unittest.TestCase):
     """Four real nodes, of which one lies to clients, in its replies and in its pieces, by a proxy."""
 
     LIAR, COUNT = 2, 40
-    are_new: bool
     places: list[str]
     proxy: played.Proxy
 
@@ -577,7 +568,6 @@ class Real(unittest.TestCase):
         ports = [*session.clients]
         ports[cls.LIAR] = cls.proxy.port
         cls.places = [f"{played.HOST}:{port}" for port in ports]
-        cls.are_new = all(map(answers_queries, session.clients))
 
     def setUp(self) -> None:
         self.cluster = Cluster(self.places, 1)
@@ -591,8 +581,6 @@ class Real(unittest.TestCase):
         self.assertGreater(self.proxy.heard, heard)
 
     def test_2_follow(self) -> None:
-        if not self.are_new:
-            self.skipTest("the program doesn't answer queries yet")
         heard = self.proxy.heard
         with self.cluster.follower() as follower:
             for place in range(self.COUNT):
@@ -605,11 +593,6 @@ class Real(unittest.TestCase):
                 self.assertLess(time.monotonic(), until, "nobody hears the liar")
         position = self.cluster.submit(8, 0, b"one more")
         self.assertEqual(next(self.cluster.follow(position, timeout=SOON))[3:], (8, 0, b"one more"))
-
-    def test_3_old_nodes_are_told(self) -> None:
-        if self.are_new:
-            self.skipTest("the program answers queries")
-        self.assertRaises(QueriesRefused, next, self.cluster.follow(timeout=SOON))
 
 
 if __name__ == "__main__":
