@@ -34,7 +34,7 @@ fn leaves(alloc: Global, disk: &MemDisk, pick: u32, left: &[u8]) -> Result<bool,
     let mut stopped = disk.after_stop(alloc, pick)?;
     let mut buf = [0; 8];
     match read(&mut stopped, &mut buf) {
-        Ok(count) => Ok(&buf[..count] == left),
+        Ok(count) => Ok(count == left.len() && buf.starts_with(left)),
         Err(Failed) => Ok(false),
     }
 }

@@ -97,8 +97,7 @@ fn another_row_is_a_change(rt: HostRuntime) {
 }
 
 // Four rows that make just 16,384 bytes, and a byte behind them.
-#[test]
-fn a_piece_has_16384_bytes_at_most(rt: HostRuntime) {
+fn four_rows_and_a_byte() -> [u8; 16_385] {
     let mut bytes = [0; 16_385];
     bytes[0] = 3;
     bytes[5] = 4;
@@ -112,6 +111,12 @@ fn a_piece_has_16384_bytes_at_most(rt: HostRuntime) {
         bytes[at + 13] = high;
         bytes[at + 14] = low;
     }
+    bytes
+}
+
+#[test]
+fn a_piece_has_16384_bytes_at_most(rt: HostRuntime) {
+    let bytes = four_rows_and_a_byte();
     let p = Params::new(1, 0).expect(&rt, "a session");
     let mut observer = Observer::new(rt.alloc(), &p).expect(&rt, "memory");
     assert_eq!(rt;
