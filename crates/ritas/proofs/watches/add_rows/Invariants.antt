@@ -6,4 +6,4 @@ use Rattle.ritas.proofs.watches.add_rows.Given as goal
 
 abbrev pub invariant-loop-position : goal.invariant-loop-position
 invariant-loop-position l =
-    string_bytes l.text ≡ string_bytes l.initial.text ++ flat_map (λ position. row_line position (row_at l.observer.now.rows position)) (range_with_len 0 l.position)
+    string_bytes l.text ≡ string_bytes l.initial.text ++ flat_map (λ position. row_line position (row_at l.observer.rows position)) (range_with_len 0 l.position)
