@@ -3,7 +3,7 @@
 use client_port::{QUERY_LEN, queries_are_read, read_query, write_piece, write_query};
 use command_log::Log;
 use observer::{Observer, PieceFault, log_is_true, pieces_are_read, row_is_true};
-use ritas_base::{Id, Params};
+use ritas_base::{Id, Mem, Params};
 use std::alloc::Global;
 
 // Row 0 of a log: command 0 of replica 0, request 1 of client 7, "hi".
@@ -96,9 +96,9 @@ fn another_row_is_a_change(rt: HostRuntime) {
     assert_eq!(rt; observer.len(), 0);
 }
 
-// Four rows that make just 16,384 bytes, and a byte behind them.
-fn four_rows_and_a_byte() -> [u8; 16_385] {
-    let mut bytes = [0; 16_385];
+// Four rows that make just 16,384 bytes.
+fn four_rows() -> [u8; 16_384] {
+    let mut bytes = [0; 16_384];
     bytes[0] = 3;
     bytes[5] = 4;
     for (at, size) in [
@@ -114,16 +114,25 @@ fn four_rows_and_a_byte() -> [u8; 16_385] {
     bytes
 }
 
+// These bytes, and a zero behind them.
+fn with_a_byte(alloc: Global, bytes: &[u8]) -> Result<Vec<u8>, Mem> {
+    let mut longer = Vec::new(alloc);
+    longer.extend_from_slice(bytes)?;
+    longer.push(0)?;
+    Ok(longer)
+}
+
 #[test]
 fn a_piece_has_16384_bytes_at_most(rt: HostRuntime) {
-    let bytes = four_rows_and_a_byte();
+    let rows = four_rows();
+    let longer = with_a_byte(rt.alloc(), &rows).expect(&rt, "memory");
     let p = Params::new(1, 0).expect(&rt, "a session");
     let mut observer = Observer::new(rt.alloc(), &p).expect(&rt, "memory");
     assert_eq!(rt;
-        observer.piece(rt.alloc(), 0, &bytes),
+        observer.piece(rt.alloc(), 0, longer.as_slice()),
         Err(PieceFault::Form(16_384))
     );
-    assert_eq!(rt; observer.piece(rt.alloc(), 0, &bytes[..16_384]), Ok(4));
+    assert_eq!(rt; observer.piece(rt.alloc(), 0, &rows), Ok(4));
 }
 
 #[test]
