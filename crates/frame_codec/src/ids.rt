@@ -10,7 +10,8 @@ use crate::fields::block;
 use crate::limits::MOST_IDS;
 use ritas_base::{Id, NUMBER_LIMIT, Params};
 
-/// The identifiers of a list so far: how many may have one origin, the last one, how many have its origin, and how many there are.
+/// The identifiers of a list so far: how many may have one origin, the last one, how many have its
+/// origin, and how many there are.
 #[derive(Clone, Copy)]
 pub(crate) struct Run {
     share: u8,

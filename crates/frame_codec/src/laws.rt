@@ -28,8 +28,8 @@ pub fn list_law()
     ensures again { (xs : List Id) → AllByRecursion (λ x. x.num < 2 ^ 32) xs → ids_of (ids_bytes xs) ≡ xs }
 {}
 
-/// A value of class 3 of root service 7 spells identifiers, or none: at most `most_ids` (64), ascending, of replicas, and
-/// of numbers below `number_limit` (1,000,000), whatever their origins.
+/// A value of class 3 of root service 7 spells identifiers, or none: at most `most_ids` (64), ascending,
+/// of replicas, and of numbers below `number_limit` (1,000,000), whatever their origins.
 ///
 /// It does nothing: its contract is the law.
 pub fn any_list_law()

@@ -13,7 +13,8 @@ use Rattle.layer_api.specs.Service.{Instance, OfBit, OfValue, OfVector, Decision
 use Rattle.layer_api.specs.Purpose.{Rounds}
 pub use Rattle.layer_api.specs.Purpose.{backers}
 
--- the slot at which replica k says what it proposes in a round: its list of identifiers, or its proposal for a vector
+-- the slot at which replica k says what it proposes in a round: its list of identifiers, or its proposal
+-- for a vector
 abbrev pub list_slot : ℕ → ℕ → Slot
 list_slot a k = record { class = 2; a = a; attempt = 0; bround = 0; step = 0; origin = k }
 
@@ -54,9 +55,9 @@ Listing = ℕ → ℕ → List ℕ → Type 0
 abbrev pub SaidList : Play → List (ReplicaStep Word) → Listing
 SaidList g steps k a v = HasSay (g.said k (calls_of k steps)) (record { slot = list_slot a k; value = v })
 
--- A round appends to the identifier log what its decision wants and isn't in the log yet. So an identifier was appended by a round that
--- is complete, whose decision wants it, as that of no earlier round does; and some correct replica proposed in that round a list that
--- has it.
+-- A round appends to the identifier log what its decision wants and isn't in the log yet. So an identifier
+-- was appended by a round that is complete, whose decision wants it, as that of no earlier round does; and
+-- some correct replica proposed in that round a list that has it.
 pub record IsAppendedBy (rounds : Rounds) (p : Numbers) (is_correct : ℕ → Bool) (listed : Listing)
     (decided : Instance → Option Decision) (completed : ℕ) (x : Id) : Type 0 where
   pub round : ℕ

@@ -32,8 +32,8 @@ has_id (y ∷ ys) x = (y.origin == x.origin && y.num == x.num) || has_id ys x
 abbrev pub backers : List (List ℕ) → Id → ℕ
 backers lists x = count_by (λ list. has_id (ids_of list) x) lists
 
--- The rounds of a service that puts commands in one order: which instance decides a round, and whether its decision wants an
--- identifier in the log.
+-- The rounds of a service that puts commands in one order: which instance decides a round, and whether its
+-- decision wants an identifier in the log.
 pub record Rounds : Type 0 where
   pub instance : ℕ → Instance
   pub wants : Numbers → Decision → Id → Bool
@@ -58,8 +58,8 @@ list_rounds = record { instance = λ a. OfValue a 0; wants = list_wants }
 
 -- ---- purposes
 
--- A root service delivers commands, each by itself; or it takes one input and decides one instance; or it puts commands in one
--- order, by rounds.
+-- A root service delivers commands, each by itself; or it takes one input and decides one instance; or it
+-- puts commands in one order, by rounds.
 pub data Purpose : Type 0 where
   Carries : Purpose
   Decides : Instance → Purpose

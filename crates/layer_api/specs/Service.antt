@@ -184,8 +184,8 @@ pub record Appends (r : ServiceRules) (seat : Seat) (c : Word) (w : List Word) :
   pub whole : more ++ r.done seat w ≡ r.done seat (c ∷ w)
   pub recent : AreRecent r seat (c ∷ w) more
 
--- whether a command of an origin is finished: where commands are put in one order it is in the identifier log, and else it was
--- delivered
+-- whether a command of an origin is finished: where commands are put in one order it is in the identifier
+-- log, and else it was delivered
 abbrev pub is_finished : ServiceRules → Seat → List Word → ℕ → ℕ → Bool
 is_finished r seat w origin num =
     if orders_commands r.purpose then has_id (r.done seat w) (record { origin = origin; num = num }) else is_heard w (command_slot origin num)
@@ -206,8 +206,8 @@ IsEndingOf (OfVector a) (Decided (Value v)) = ⊤
 IsEndingOf (OfVector a) (Decided Spent) = ⊤
 IsEndingOf x e = ⊥
 
--- what may become of the one instance of a root service; one that orders commands has none, but that the instance of a round may
--- be spent, where it is one that can
+-- what may become of the one instance of a root service; one that orders commands has none, but that the
+-- instance of a round may be spent, where it is one that can
 abbrev pub IsEnding : Purpose → Ending → Type 0
 IsEnding Carries e = e ≡ Undecided
 IsEnding (Decides x) e = IsEndingOf x e

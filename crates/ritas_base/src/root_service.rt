@@ -1,6 +1,6 @@
 //! The root services, and their numbers.
 
-ghost use Rattle.std.specs.Prelude.{◌≡◌, not};
+ghost use Rattle.std.specs.Prelude.{◌≡◌, ◌==◌, not};
 ghost use Rattle.ritas_base.specs.RootServices.{root_number, root_service};
 ghost use Rattle.ritas_base.specs.Slots.{has_class, has_tries, is_atomic, within};
 
@@ -83,7 +83,23 @@ impl RootService {
         }
     }
 
-    /// Whether it takes commands. Each of the others takes one input, and decides one instance of consensus.
+    /// Whether its commands go by echo broadcast, and not by the reliable one.
+    pub fn echoes_commands(self) -> bool
+        ensures { result ≡ (root_number self == 2) }
+    {
+        match self {
+            RootService::Echo => true,
+            RootService::Reliable
+            | RootService::Binary
+            | RootService::MultiValued
+            | RootService::Vector
+            | RootService::Atomic
+            | RootService::Direct => false,
+        }
+    }
+
+    /// Whether it takes commands. Each of the others takes one input, and decides one instance of
+    /// consensus.
     #[tactic(auto, unfolding(crate::specs::Slots::has_class))]
     pub fn takes_commands(self) -> bool
         ensures class { result ≡ has_class (root_number self) 1 }

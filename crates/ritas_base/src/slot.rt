@@ -152,7 +152,7 @@ impl Slot {
         ensures { result ≡ by_echo mode.now self.now }
     {
         match self.class {
-            1 => matches!(mode.service(), RootService::Echo),
+            1 => mode.service().echoes_commands(),
             4 => matches!(mode.vect, Vect::Echo),
             _ => false,
         }

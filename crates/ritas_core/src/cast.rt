@@ -30,7 +30,7 @@ fn route_of(mode: &Mode, slot: &Slot) -> Route
     ensures { result ≡ route_of mode.now slot.now }
 {
     let is_other = if slot.class == 1 {
-        mode.root == 2
+        mode.service().echoes_commands()
     } else {
         slot.class == 4
     };
