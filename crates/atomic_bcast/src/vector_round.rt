@@ -9,12 +9,12 @@ use std::alloc::Global;
 
 /// Atomic broadcast over any vector consensus, for root service 6.
 ///
-/// The rounds are those of `Ordered`: each is one vector consensus on lists of identifiers, and wants those in the log
-/// that stand in f + 1 of the vector's lists.
+/// The rounds are those of `Ordered`: each is one vector consensus on lists of identifiers, and
+/// wants those in the log that stand in f + 1 of the vector's lists.
 ///
-/// It is that of Correia, Neves and Veríssimo, "From Consensus to Atomic Broadcast: Time-Free Byzantine-Resistant
-/// Protocols without Signatures" (The Computer Journal, 2006). That f + 1 lists must name an identifier is this project's
-/// own profile.
+/// It is that of Correia, Neves and Veríssimo, "From Consensus to Atomic Broadcast: Time-Free
+/// Byzantine-Resistant Protocols without Signatures" (The Computer Journal, 2006). That f + 1 lists
+/// must name an identifier is this project's own profile.
 pub type Abc<V> = Ordered<VectorRound<V>>;
 
 /// One replica's part in a round of vector consensus: its box, and the round's number.

@@ -31,7 +31,7 @@ use Rattle.ordered_rounds.specs.Backing.{NotesList}
 use Rattle.layer_api.specs.Proposals.{backers}
 use Rattle.ordered_rounds.specs.Box.{MayRound, MayRoundHear}
 use Rattle.ordered_rounds.specs.BoxCalls.{ShowsRoundNear}
-use Rattle.direct_atomic.specs.Lists.{least_backed, lists_at, inner_asked, is_inner, inner_desk, inner_words, decided_list, lists}
+use Rattle.direct_atomic.specs.Lists.{least_backed, is_due, lists_at, inner_asked, is_inner, inner_desk, inner_words, decided_list, lists}
 use Rattle.direct_atomic.specs.Laws.Inner.{feeds}
 use Rattle.direct_atomic.specs.Stands.{RoundHolds, ListStands, IsInnerNear, HearsList, NearHearing, list_shown}
 use Rattle.direct_atomic.specs.declared.list_round.ListRound.{ListRound}
@@ -39,9 +39,6 @@ use Rattle.ordered_rounds.specs.Laws.NotedLists.{lists_more, none_marked, none_n
 use Rattle.direct_atomic.proofs.Counting.{backers_more, count_more, fresh_more}
 
 -- ---- what the instance is asked
-
-abbrev pub is_due : Scope → List Word → Bool
-is_due at h = is_some (proposed h) && nat_le (wait_of at.numbers) (count_by is_some (props at h))
 
 some_of : (b : Bool) (v : List ℕ) → is_some (if b then Some v else None) ≡ b
 some_of true v = refl

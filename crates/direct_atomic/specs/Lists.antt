@@ -1,7 +1,8 @@
--- The rounds of the direct atomic broadcast: each replica broadcasts a list of identifiers, and once n - f lists are there proposes those
--- that stand in f + 1 of them to multi-valued consensus.
+-- The rounds of the direct atomic broadcast: each replica broadcasts a list of identifiers, and once
+-- n - f lists are there proposes those that stand in f + 1 of them to multi-valued consensus.
 use Rattle.std.specs.Prelude.{ℕ, Bool, false, not, ◌==◌, ◌&&◌, nat_le, if◌then◌else◌, List, [], ◌∷◌, ◌++◌, take, count_by, Option, Some, None, is_some, option_map, unwrap_or}
 use Rattle.ritas_base.specs.declared.slot.Slot.{Slot}
+use Rattle.ritas_base.specs.declared.item.Say.{Say}
 use Rattle.ritas_base.specs.declared.id.Id.{Id}
 use Rattle.ritas_base.specs.declared.root_service.RootService.TheVariants.{Direct}
 use Rattle.ritas_base.specs.RootServices.{root_number}
@@ -26,10 +27,14 @@ use Rattle.ordered_rounds.specs.Box.{RoundRules}
 abbrev pub least_backed : Numbers → List (List ℕ) → List Id
 least_backed p lists = take most_ids (backed p lists)
 
--- the instance is proposed that at the shortest prefix where the replica proposed and n - f lists are there
+-- the replica proposed its own list, and n - f lists are there
+abbrev pub is_due : Scope → List Word → Bool
+is_due at h = is_some (proposed h) && nat_le (wait_of at.numbers) (count_by is_some (props at h))
+
+-- the instance is proposed that at the shortest prefix where it is due
 abbrev pub lists_at : Scope → List Word → Option (List ℕ)
 lists_at at h =
-    if is_some (proposed h) && nat_le (wait_of at.numbers) (count_by is_some (props at h)) then Some (ids_bytes (least_backed at.numbers (present (props at h)))) else None
+    if is_due at h then Some (ids_bytes (least_backed at.numbers (present (props at h)))) else None
 
 abbrev pub inner_asked : Scope → List Word → Option (List ℕ)
 inner_asked at w = at_shortest (lists_at at) w
@@ -49,15 +54,23 @@ inner_desk at = record { scope = inner_scope at.scope; me = at.me; coin = at.coi
 abbrev pub inner_words : Scope → List Word → List Word
 inner_words at w = part_words (inner_asked at) is_inner w
 
+-- what it says in the words that a word makes for it
+abbrev pub inner_says : MultiRules → Desk → List Word → Word → List Say
+inner_says m at w c =
+    says_in (m.says (inner_desk at)) (part_of (inner_asked at.scope) is_inner w c) (inner_words at.scope w)
+
 -- what it decided: that no value is, or a list
 abbrev pub inner_decides : MultiRules → Desk → List Word → Option (Option (List ℕ))
 inner_decides m at w = m.decision (inner_desk at) (inner_words at.scope w)
 
 -- ---- the round
 
+-- in a round that began the slots of lists are open once the own list was proposed, and the others as
+-- the instance says
 abbrev pub list_opens : MultiRules → Desk → List Word → Slot → Bool
 list_opens m at w s =
-    is_slot_in 0 at.scope.a s && (if s.class == 2 then is_some (proposed w) else m.opens (inner_desk at) (inner_words at.scope w) s)
+    is_slot_in 0 at.scope.a s
+    && (if s.class == 2 then is_some (proposed w) else m.opens (inner_desk at) (inner_words at.scope w) s)
 
 -- where no value is, no identifier is wanted
 abbrev pub decided_list : Option (Option (List ℕ)) → Option (List ℕ)
@@ -65,8 +78,12 @@ decided_list o = option_map (λ u. unwrap_or u []) o
 
 -- what the instance decided, and that of a bit inside it
 abbrev pub list_inside : MultiRules → Desk → List Word → Instance → Option Decision
-list_inside m at w (OfBit a k) = if a == at.scope.a && k == 0 then m.inside (inner_desk at) (inner_words at.scope w) (OfBit a k) else None
-list_inside m at w (OfValue a k) = if a == at.scope.a && k == 0 then m.inside (inner_desk at) (inner_words at.scope w) (OfValue a k) else None
+list_inside m at w (OfBit a k) =
+    if a == at.scope.a && k == 0 then m.inside (inner_desk at) (inner_words at.scope w) (OfBit a k)
+    else None
+list_inside m at w (OfValue a k) =
+    if a == at.scope.a && k == 0 then m.inside (inner_desk at) (inner_words at.scope w) (OfValue a k)
+    else None
 list_inside m at w (OfVector a) = None
 
 -- rounds by lists, over multi-valued consensus
@@ -75,8 +92,7 @@ lists m = record {
   root = root_number Direct;
   rounds = list_rounds;
   says = λ at w c.
-      newly (prop_slot at.scope at.me) (proposed w) (proposed (c ∷ w))
-      ++ says_in (m.says (inner_desk at)) (part_of (inner_asked at.scope) is_inner w c) (inner_words at.scope w);
+      newly (prop_slot at.scope at.me) (proposed w) (proposed (c ∷ w)) ++ inner_says m at w c;
   opens = λ at w s. list_opens m at w s;
   decision = λ at w. decided_list (inner_decides m at w);
   wanted = λ p v. in_order (ids_of v);

@@ -1,5 +1,5 @@
--- Worked rows of the rounds of the direct atomic broadcast, over a box of multi-valued consensus that decides on the first value of class 3 that it
--- hears, and that no value is where it hears a VECT first.
+-- Worked rows of the rounds of the direct atomic broadcast, over a box of multi-valued consensus that
+-- decides on the first value of class 3 that it hears, and that no value is where it hears a VECT first.
 use Rattle.std.specs.Prelude.{◌≡◌, ℕ, true, false, List, [], ◌∷◌, Option, Some, None, option_map, refl}
 use Rattle.std.specs.Option.{option_or}
 use Rattle.std.proofs.Common.{lit≤}
@@ -33,13 +33,20 @@ abbrev box : MultiRules
 box = record {
   says = λ at w c. [];
   opens = λ at w s. true;
-  decision = λ at w. option_or (option_map Some (value_at w (value_slot at.scope.a))) (option_map (λ v. None) (value_at w (none_slot at.scope.a)));
+  decision = λ at w.
+      option_or (option_map Some (value_at w (value_slot at.scope.a)))
+      (option_map (λ v. None) (value_at w (none_slot at.scope.a)));
   inside = λ at w x. no_decision;
 }
 
 -- replica 0 of four, of which one may be faulty
 abbrev four : Seat
-four = record { numbers = record { n = 4; f = 1 }; mode = record { root = 7; vect = Echo; version = One; low = lit≤ tt; high = lit≤ tt }; me = 0; coin = λ s. false }
+four = record {
+  numbers = record { n = 4; f = 1 };
+  mode = record { root = 7; vect = Echo; version = One; low = lit≤ tt; high = lit≤ tt };
+  me = 0;
+  coin = λ s. false;
+}
 
 abbrev at : Scope
 at = round_scope (lists box) four.numbers 0
@@ -51,7 +58,10 @@ listed k ids = Hear (prop_slot at k) (ids_bytes ids)
 -- ---- what is proposed
 
 -- what stands in two lists at least, ascending
-two_of_three : least_backed four.numbers (ids_bytes (id 2 0 ∷ []) ∷ ids_bytes (id 0 0 ∷ id 2 0 ∷ []) ∷ ids_bytes (id 0 0 ∷ id 1 5 ∷ []) ∷ []) ≡ id 0 0 ∷ id 2 0 ∷ []
+two_of_three :
+    least_backed four.numbers
+    (ids_bytes (id 2 0 ∷ []) ∷ ids_bytes (id 0 0 ∷ id 2 0 ∷ []) ∷ ids_bytes (id 0 0 ∷ id 1 5 ∷ []) ∷ [])
+    ≡ id 0 0 ∷ id 2 0 ∷ []
 unfolding ids_in
 two_of_three = refl
 
@@ -75,24 +85,31 @@ unfolding ids_in
 asked = refl
 
 -- the fourth changes nothing
-asked_once : inner_words at (listed 3 (id 3 1 ∷ []) ∷ listed 2 (id 3 1 ∷ []) ∷ two) ≡ Ask (ids_bytes (id 0 0 ∷ [])) ∷ []
+asked_once :
+    inner_words at (listed 3 (id 3 1 ∷ []) ∷ listed 2 (id 3 1 ∷ []) ∷ two)
+    ≡ Ask (ids_bytes (id 0 0 ∷ [])) ∷ []
 unfolding ids_in
 asked_once = refl
 
 -- where no identifier stands in two of them, the empty list is proposed
-nothing_common : inner_asked at (listed 2 (id 3 1 ∷ []) ∷ listed 1 (id 2 1 ∷ []) ∷ listed 0 (id 0 0 ∷ []) ∷ Ask (ids_bytes (id 0 0 ∷ [])) ∷ []) ≡ Some []
+nothing_common :
+    inner_asked at
+    (listed 2 (id 3 1 ∷ []) ∷ listed 1 (id 2 1 ∷ []) ∷ listed 0 (id 0 0 ∷ []) ∷ Ask (ids_bytes (id 0 0 ∷ [])) ∷ [])
+    ≡ Some []
 unfolding ids_in
 nothing_common = refl
 
 -- ---- what is decided
 
 -- a list is appended, in its order
-decided : log_below (lists box) four 1 (Hear (value_slot 0) (ids_bytes (id 0 0 ∷ [])) ∷ begun) ≡ Some (id 0 0 ∷ [])
+decided :
+    log_below (lists box) four 1 (Hear (value_slot 0) (ids_bytes (id 0 0 ∷ [])) ∷ begun) ≡ Some (id 0 0 ∷ [])
 unfolding ids_in
 decided = refl
 
 -- it waits for its commands
-waits : log_below (lists box) four 1 (Hear (value_slot 0) (ids_bytes (id 0 0 ∷ id 1 0 ∷ [])) ∷ begun) ≡ None
+waits :
+    log_below (lists box) four 1 (Hear (value_slot 0) (ids_bytes (id 0 0 ∷ id 1 0 ∷ [])) ∷ begun) ≡ None
 unfolding ids_in
 waits = refl
 
@@ -107,7 +124,8 @@ unfolding ids_in
 empty_decided = refl
 
 -- the command is still pending, so that the next round begins with it at once
-again : round_words (lists box) four 1 (Hear (none_slot 0) [] ∷ begun) ≡ Ask (ids_bytes (id 0 0 ∷ [])) ∷ []
+again :
+    round_words (lists box) four 1 (Hear (none_slot 0) [] ∷ begun) ≡ Ask (ids_bytes (id 0 0 ∷ [])) ∷ []
 unfolding ids_in
 again = refl
 

@@ -1,4 +1,5 @@
-//! A round of the direct atomic broadcast: lists of identifiers are broadcast, and one list is decided by multi-valued consensus.
+//! A round of the direct atomic broadcast: lists of identifiers are broadcast, and one list is
+//! decided by multi-valued consensus.
 
 ghost use Rattle.std.specs.Prelude.{◌≡◌, ℕ, ◌≤◌, List, nat_le, take, IfOk};
 ghost use Rattle.ritas_base.specs.declared.id.Id.{Id};
@@ -8,7 +9,8 @@ ghost use Rattle.ordered_rounds.specs.Identifiers.{in_order, passing_ids};
 ghost use Rattle.layer_api.specs.Proposals.{backers};
 ghost use Rattle.ordered_rounds.specs.Rounds.{entry_ids};
 ghost use Rattle.ordered_rounds.specs.Backing.{lists_with};
-ghost use Rattle.direct_atomic.specs.Stands.{GoesOn, NearInner, KeepsLists, StartsRound, NearStart, HearsList, NearHearing, RoundEnds};
+ghost use Rattle.direct_atomic.specs.Stands.{GoesOn, NearInner, KeepsLists, StartsRound, NearStart};
+ghost use Rattle.direct_atomic.specs.Stands.{HearsList, NearHearing, RoundEnds};
 
 use frame_codec::{MOST_IDS, write_ids};
 use layer_api::{Decided, MultiBox, is_slot_in, put_out};
@@ -19,14 +21,17 @@ use std::collections::BTreeMap;
 
 /// The direct atomic broadcast over any multi-valued consensus, for root service 7.
 ///
-/// The rounds are those of `Ordered`: in each every replica broadcasts a list of identifiers, and proposes to one multi-valued
-/// consensus those that stand in f + 1 of the first n - f lists that it heard.
+/// The rounds are those of `Ordered`. In each every replica broadcasts a list of identifiers. Once it
+/// has done so and has heard n - f lists, it proposes to one multi-valued consensus the least 64 of
+/// those that stand in f + 1 of these. The list that this decides is wanted in the log; where it is
+/// decided that no value is, nothing is.
 pub type Direct<M> = Ordered<ListRound<M>>;
 
 /// One replica's part in a round.
 ///
-/// It keeps for each identifier in whose lists it stands, and not the lists. The consensus is there from the start, and is asked
-/// once. Memory is taken for identifiers, for what is proposed and for what is said.
+/// It keeps for each identifier in whose lists it stands, and not the lists. The consensus is there
+/// from the start, and is asked once. Memory is taken for identifiers, for what is proposed and for
+/// what is said.
 #[derive(Drop)]
 pub struct ListRound<M: MultiBox> {
     params: Params,
@@ -57,11 +62,14 @@ fn least_ids(ids: &[Id]) -> &[Id]
     ids.split_at(ids.len().min(usize::from(MOST_IDS))).0
 }
 
-/// The list of the least 64 identifiers that stand in so many lists at least. The one error is want of memory.
+/// The list of the least 64 identifiers that stand in so many lists at least. The one error is want
+/// of memory.
 fn backed_list(alloc: Global, least: u8, noted: &BTreeMap<Id, u32>) -> Result<Bytes, Mem>
     requires { 1 ≤ least }
-    ensures { IfOk result (λ bytes. (lists : List (List ℕ)) → ((x : Id) → lists_with noted.now x ≡ backers lists x)
-        → bytes ≡ ids_bytes (take most_ids (passing_ids (λ x. nat_le least (backers lists x)) (in_order (entry_ids lists))))) }
+    ensures { IfOk result (λ bytes. (lists : List (List ℕ))
+        → ((x : Id) → lists_with noted.now x ≡ backers lists x)
+        → bytes ≡ ids_bytes (take most_ids
+        (passing_ids (λ x. nat_le least (backers lists x)) (in_order (entry_ids lists))))) }
 {
     let ids = with_backers(alloc, least, noted)?;
     write_ids(alloc, least_ids(ids.as_slice()))
@@ -70,7 +78,8 @@ fn backed_list(alloc: Global, least: u8, noted: &BTreeMap<Id, u32>) -> Result<By
 impl<M: MultiBox> ListRound<M> {
     // Proposes to the consensus, where it wasn't proposed to and enough lists are there.
     fn go_on(&mut self, alloc: Global, made: &mut Vec<Say>) -> Result<(), Mem>
-        ensures ok { IfOk result (λ u. GoesOn M.stands M.rules self.old self.new made.old.items made.new.items) }
+        ensures ok { IfOk result
+            (λ u. GoesOn M.stands M.rules self.old self.new made.old.items made.new.items) }
         ensures near { NearInner M.stands M.rules M.shown self.old self.new }
         ensures keeps { KeepsLists self.old self.new }
     {
@@ -85,7 +94,8 @@ impl<M: MultiBox> ListRound<M> {
 
     // Proposes a list, and says what follows.
     fn start(&mut self, alloc: Global, value: &[u8], made: &mut Vec<Say>) -> Result<(), Mem>
-        ensures ok { IfOk result (λ u. StartsRound M.stands M.rules self.old self.new value.now made.old.items made.new.items) }
+        ensures ok { IfOk result
+            (λ u. StartsRound M.stands M.rules self.old self.new value.now made.old.items made.new.items) }
         ensures near { NearStart M.stands M.rules M.shown self.old self.new value.now }
     {
         self.own = true;
@@ -111,8 +121,11 @@ impl<M: MultiBox> ListRound<M> {
         value: &[u8],
         made: &mut Vec<Say>,
     ) -> Result<(), Mem>
-        ensures ok { IfOk result (λ u. HearsList M.stands M.rules (C.bits coin.now) self.old self.new slot.now value.now made.old.items made.new.items) }
-        ensures near { NearHearing M.stands M.rules M.shown (C.bits coin.now) self.old self.new slot.now value.now }
+        ensures ok { IfOk result
+            (λ u. HearsList M.stands M.rules (C.bits coin.now) self.old self.new slot.now value.now
+            made.old.items made.new.items) }
+        ensures near { NearHearing M.stands M.rules M.shown (C.bits coin.now) self.old self.new
+            slot.now value.now }
     {
         if slot.class != 2 {
             return self.inner.heard(alloc, coin, slot, value, made);
@@ -125,14 +138,16 @@ impl<M: MultiBox> ListRound<M> {
         self.go_on(alloc, made)
     }
 
-    // Puts out what is said, last. For want of memory nothing is put out, and the box is live no more.
+    // Puts out what is said, last. For want of memory nothing is put out, and the round is live no
+    // more.
     fn end(
         &mut self,
         done: Result<(), Mem>,
         made: &mut Vec<Say>,
         says: &mut Vec<Say>,
     ) -> Result<(), Mem>
-        ensures { RoundEnds self.old self.new done made.old.items says.old.items says.new.items result }
+        ensures { RoundEnds self.old self.new done
+            made.old.items says.old.items says.new.items result }
     {
         match put_out(done, made, says) {
             Ok(()) => Ok(()),

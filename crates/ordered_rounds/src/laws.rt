@@ -7,9 +7,11 @@ ghost use Rattle.ordered_rounds.specs.Rounds.{ordered};
 ghost use Rattle.ordered_rounds.specs.RoundsAgree.{RoundDecisionsAgree};
 ghost use Rattle.ordered_rounds.specs.Appended.{AppendsProposed};
 
-/// The law of one log, over any rounds that keep their laws: over every run of correct replicas, of two identifier logs
-/// one is a part of the other, what two of them decided in an instance is equal, and what the instances inside decided
-/// was proposed to them by correct replicas. Each identifier that a round appends was in the list that some correct
+/// The law of one log, over any rounds that keep their laws.
+///
+/// Over every run of correct replicas, of two identifier logs one is a part of the other, what two
+/// of them decided in an instance is equal, and what the instances inside decided was proposed to
+/// them by correct replicas. Each identifier that a round appends was in the list that some correct
 /// replica proposed in the round, and each identifier of a log was appended by a round.
 ///
 /// It does nothing: its contract is the law.

@@ -1,4 +1,8 @@
+use Rattle.frame_codec.specs.Values.{ids_of}
 use Rattle.ordered_rounds.specs.Laws.LogLaw.{one_log_law}
+use Rattle.ordered_rounds.specs.Laws.LogsByRound.{done_distinct}
+use Rattle.ordered_rounds.specs.Laws.OneLog.{decisions_agree}
+use Rattle.ordered_rounds.specs.Laws.Ordered.{in_order_sorted}
 use Rattle.ordered_rounds.specs.Laws.Appending.{appends_proposed}
 use Rattle.direct_atomic.specs.Lists.{lists}
 use Rattle.direct_atomic.specs.Laws.Box.{list_laws}
@@ -7,6 +11,12 @@ use Rattle.direct_atomic.proofs.laws.direct_log.Goals as goal
 
 pub returns-clause-log : goal.returns-clause-log
 returns-clause-log c = λ m laws one. one_log_law (lists m) (list_laws m laws) (one_list m laws one)
+
+pub returns-clause-once : goal.returns-clause-once
+returns-clause-once c = λ m seat w. done_distinct (lists m) seat (λ p v. in_order_sorted (ids_of v)) w
+
+pub returns-clause-decisions : goal.returns-clause-decisions
+returns-clause-decisions c = λ m laws one. decisions_agree (lists m) (list_laws m laws) (one_list m laws one)
 
 pub returns-clause-proposed : goal.returns-clause-proposed
 returns-clause-proposed c = λ m laws one. appends_proposed (lists m) (list_laws m laws) (one_list m laws one)
