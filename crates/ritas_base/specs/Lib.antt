@@ -4,6 +4,7 @@ pub mod Bytes
 pub mod Places
 pub mod Members
 pub mod MemberLaws
+pub mod RootServices
 pub mod Slots
 pub mod SlotLaws
 pub mod SlotOrder

@@ -8,7 +8,7 @@ use Rattle.ritas_base.specs.declared.slot.SlotFault.{SlotFault}
 use Rattle.ritas_base.specs.declared.mode.Mode.{Mode}
 use Rattle.ritas_base.specs.Numbers.{Numbers}
 use Rattle.ritas_base.specs.Places.{first_failed}
-use Rattle.ritas_base.specs.Slots.{within, has_class, has_number, has_attempt, has_count, slot_tests, slot_fault, command_slot}
+use Rattle.ritas_base.specs.Slots.{within, has_class, has_number, has_tries, has_attempt, has_count, slot_tests, slot_fault, command_slot}
 
 -- where each test passes there is no fault
 pub slot_is_right : (p : Numbers) (mode : Mode) (s : Slot) → within 1 5 s.class ≡ true → has_class mode.root s.class ≡ true → has_number mode.root s.a ≡ true
@@ -41,7 +41,7 @@ right_is p mode s e =
 
 -- a right slot of class 1 is that of its origin's command of its number
 zero_attempt : (root f attempt : ℕ) → has_attempt root f 1 attempt ≡ true → attempt ≡ 0
-zero_attempt root f attempt e = eqb-true attempt 0 (sym (plain (nat_le 5 root)) ∙ e)
+zero_attempt root f attempt e = eqb-true attempt 0 (sym (plain (has_tries root)) ∙ e)
   where
     plain : (b : Bool) → (if b && false then nat_le attempt f else attempt == 0) ≡ (attempt == 0)
     plain true = refl

@@ -10,6 +10,7 @@ mod limits;
 mod mode;
 mod params;
 mod plan;
+mod root_service;
 mod sender_set;
 mod slot;
 mod tagger;
@@ -28,6 +29,7 @@ pub use limits::{
 pub use mode::{FrameVersion, Mode, Vect};
 pub use params::{ParamFault, Params};
 pub use plan::{Attack, Order, Plan};
+pub use root_service::RootService;
 pub use sender_set::SenderSet;
 pub use slot::{Slot, SlotFault};
 pub use tagger::{Coin, Tagger};

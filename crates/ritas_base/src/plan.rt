@@ -46,6 +46,6 @@ pub struct Plan {
     pub start_number: u64,
     /// How many commands are given, or how many different values.
     pub commands: u32,
-    /// To how many correct replicas each command of root service 6 is given.
+    /// To how many correct replicas each command of root services 6 and 7 is given.
     pub copies: u8,
 }

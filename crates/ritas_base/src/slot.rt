@@ -3,10 +3,12 @@
 ghost use Rattle.std.specs.Prelude.{◌≡◌, Some, None, MatchResult, OnOk, if◌then◌else◌, ◌==◌, ◌&&◌};
 ghost use Rattle.ritas_base.specs.Numbers.{IsSession};
 ghost use Rattle.ritas_base.specs.Slots.{slot_fault, slot_bytes, by_echo, command_slot, form_of, has_class, has_count, within};
+ghost use Rattle.ritas_base.specs.RootServices.{root_number};
 
 use crate::limits::NUMBER_LIMIT;
 use crate::mode::{FrameVersion, Mode, Vect};
 use crate::params::Params;
+use crate::root_service::RootService;
 
 /// One broadcast: a class (1 command, 2 vector proposal, 3 multi-valued proposal, 4 VECT, 5 step of binary
 /// consensus), a number (the origin's command, or the round), the try, the round and step of binary consensus, and
@@ -42,16 +44,17 @@ pub enum SlotFault {
     Whole,
 }
 
+// The classes of a root service.
 #[tactic(auto, unfolding(crate::specs::Slots::has_class))]
-fn has_class(root: u8, class: u8) -> bool
-    ensures { result ≡ has_class root class }
+fn has_class(service: RootService, class: u8) -> bool
+    ensures { result ≡ has_class (root_number service) class }
 {
-    match class {
-        1 => root <= 2 || root == 6,
-        2 => root >= 5,
-        3 | 4 => root >= 4,
-        5 => root >= 3,
-        _ => false,
+    match service {
+        RootService::Reliable | RootService::Echo => class == 1,
+        RootService::Binary => class == 5,
+        RootService::MultiValued => class >= 3 && class <= 5,
+        RootService::Vector => class >= 2 && class <= 5,
+        RootService::Atomic | RootService::Direct => class >= 1 && class <= 5,
     }
 }
 
@@ -106,13 +109,14 @@ impl Slot {
         if self.class < 1 || self.class > 5 {
             return Err(SlotFault::Class);
         }
-        if !has_class(mode.root, self.class) {
+        let service = mode.service();
+        if !has_class(service, self.class) {
             return Err(SlotFault::Closed);
         }
-        if self.a >= NUMBER_LIMIT || self.a != 0 && mode.root >= 3 && mode.root <= 5 {
+        if self.a >= NUMBER_LIMIT || self.a != 0 && !service.takes_commands() {
             return Err(SlotFault::Number);
         }
-        let tries = if mode.root >= 5 && self.class >= 3 {
+        let tries = if service.has_tries() && self.class >= 3 {
             p.f()
         } else {
             0
@@ -148,7 +152,7 @@ impl Slot {
         ensures { result ≡ by_echo mode.now self.now }
     {
         match self.class {
-            1 => mode.root == 2,
+            1 => matches!(mode.service(), RootService::Echo),
             4 => matches!(mode.vect, Vect::Echo),
             _ => false,
         }
