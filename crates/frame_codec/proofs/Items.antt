@@ -1,9 +1,9 @@
 -- Items of the grammar: read again, with another kind or sender, and made from inputs.
 use Rattle.std.proofs.Common.{◌≡◌, ℕ, ◌<◌, ◌≤◌, ◌&&◌, ◌||◌, Bool, true, false, not, cond, eqb, leb, ltb, List, length, None, Result, Ok, refl, sym, ap, subst, ◌∙◌, arith, inl, inr, ◌⊎◌}
-use Rattle.std.proofs.lemmas.Bool.{eqb-true, leb-true, lt-ltb, and_parts, and_from, or_right}
+use Rattle.std.proofs.lemmas.Bool.{eqb-true, leb-true, lt-ltb, and_parts, and_from, or_right, or_cases}
 use Rattle.ritas_base.specs.Limits.{number_limit}
 use Rattle.ritas_base.specs.Numbers.{Numbers, IsSession}
-use Rattle.ritas_base.specs.Slots.{within, has_class, has_number, slot_fault, by_echo, reliable_form, form_of, command_slot}
+use Rattle.ritas_base.specs.Slots.{within, is_atomic, has_class, has_number, has_tries, slot_fault, by_echo, reliable_form, form_of, command_slot}
 use Rattle.ritas_base.specs.declared.slot.Slot.{Slot}
 use Rattle.ritas_base.specs.declared.mode.Mode.{Mode}
 use Rattle.ritas_base.specs.declared.mode.FrameVersion.{FrameVersion}
@@ -129,17 +129,21 @@ input_value p mode s bytes e is = input_by (eqb mode.root 3) (eqb mode.root 4) (
 
 -- ---- commands
 
--- a root service with commands is 1, 2 or 6
-has_commands : (t : Bool) (root : ℕ) → (t ≡ true → root ≤ 2) → (t || eqb root 6) ≡ true → (root ≤ 2) ⊎ (root ≡ 6)
+-- a root service with commands is 1, 2, 6 or 7
+has_commands : (t : Bool) (root : ℕ) → (t ≡ true → root ≤ 2) → (t || is_atomic root) ≡ true → (root ≤ 2) ⊎ (6 ≤ root)
 has_commands true root low e = inl (low refl)
-has_commands false root low e = inr (eqb-true root 6 e)
+has_commands false root low e =
+    elim (or_cases (eqb root 6) (eqb root 7) e) [
+      | inl six ↦ inr (omega (arith, eqb-true root 6 six))
+      | inr seven ↦ inr (omega (arith, eqb-true root 7 seven))
+    ]
 
 is_between : (root : ℕ) → within 3 5 root ≡ true → (3 ≤ root) × (root ≤ 5)
 is_between root e =
     let both = and_parts (leb 3 root) (leb root 5) e in
     (leb-true 3 root both.0, leb-true root 5 both.1)
 
-not_between : (t : Bool) (root : ℕ) → (root ≤ 2) ⊎ (root ≡ 6) → (t ≡ true → (3 ≤ root) × (root ≤ 5)) → not t ≡ true
+not_between : (t : Bool) (root : ℕ) → (root ≤ 2) ⊎ (6 ≤ root) → (t ≡ true → (3 ≤ root) × (root ≤ 5)) → not t ≡ true
 not_between false root is between = refl
 not_between true root (inl low) between = absurd (omega (arith, low, (between refl).0))
 not_between true root (inr six) between = absurd (omega (arith, six, (between refl).1))
@@ -159,7 +163,7 @@ pub command_slot_right : (p : Numbers) (mode : Mode) (origin num : ℕ) → has_
     → slot_fault p mode (command_slot origin num) ≡ None
 unfolding slot_fault
 command_slot_right p mode origin num has lt small =
-    rw (has, command_numbered mode.root num has small, no_tries (leb 5 mode.root) p.f, lt-ltb origin p.n lt) refl
+    rw (has, command_numbered mode.root num has small, no_tries (has_tries mode.root) p.f, lt-ltb origin p.n lt) refl
 
 first_by : (version : FrameVersion) (echo : Bool) → is_of_form (cond echo 2 (reliable_form version)) (first_kind echo) ≡ true
 first_by versions.One true = refl
@@ -181,7 +185,7 @@ first_carries : (mode : Mode) (s : Slot) → carries_value (form_of mode s) (fir
 unfolding form_of
 first_carries mode s = carries_by mode.version (by_echo mode s)
 
-command_takes : (t3 t4 t5 : Bool) (root : ℕ) → (root ≤ 2) ⊎ (root ≡ 6) → (t3 ≡ true → root ≡ 3) → (t4 ≡ true → root ≡ 4) → (t5 ≡ true → root ≡ 5)
+command_takes : (t3 t4 t5 : Bool) (root : ℕ) → (root ≤ 2) ⊎ (6 ≤ root) → (t3 ≡ true → root ≡ 3) → (t4 ≡ true → root ≡ 4) → (t5 ≡ true → root ≡ 5)
     → cond t3 false (cond t4 false (cond t5 false true)) ≡ true
 command_takes false false false root is a b c = refl
 command_takes true t4 t5 root (inl low) a b c = absurd (omega (arith, low, a refl))

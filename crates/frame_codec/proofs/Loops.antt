@@ -1,6 +1,7 @@
 -- The two loops: over identifiers, and over entries.
-use Rattle.std.proofs.Common.{◌≡◌, ℕ, zero, suc, Bool, true, false, cond, eqb, ◌+◌, ◌≤◌, ◌/◌, arith, List, Result, Ok, refl, sym, ◌∙◌}
+use Rattle.std.proofs.Common.{◌≡◌, ℕ, zero, suc, Bool, true, false, cond, ◌+◌, ◌≤◌, ◌/◌, arith, List, Result, Ok, refl, sym, ◌∙◌}
 use Rattle.ritas_base.specs.declared.id.Id.{Id}
+use Rattle.ritas_base.specs.Slots.{is_atomic}
 use Rattle.frame_codec.specs.declared.ids.Run.{Run}
 use Rattle.frame_codec.specs.Format.{Format, Done, Block, ◌>>=◌, read}
 use Rattle.frame_codec.specs.Grammar.{any, no_ids, has_origin, with_id, id_at, ids_from, entry, times}
@@ -28,7 +29,7 @@ choice_open false a b x y = y
 
 pub entry_open : (n root : ℕ) → IsOpen (entry n root)
 unfolding entry
-entry_open n root = λ (len : ℕ). choice_open (eqb root 6) (ids_from n (len / 5) no_ids) (Block len any (λ _. Done)) (ids_open n (len / 5) no_ids) (λ b. tt)
+entry_open n root = λ (len : ℕ). choice_open (is_atomic root) (ids_from n (len / 5) (no_ids n)) (Block len any (λ _. Done)) (ids_open n (len / 5) (no_ids n)) (λ b. tt)
 
 abbrev pub entries_left : ℕ → ℕ → ℕ → List ℕ → Result (List ℕ) ℕ
 entries_left n root count bytes = read (times count (entry n root)) bytes

@@ -14,12 +14,12 @@ use Rattle.ritas_base.specs.declared.mode.Mode.{Mode}
 use Rattle.ritas_base.specs.Limits.{number_limit, least_request, longest_input}
 use Rattle.frame_codec.specs.Limits.{most_ids, longest_ids, longest_entry}
 use Rattle.frame_codec.specs.declared.ids.Run.{Run}
-use Rattle.ritas_base.specs.Slots.{form_of}
+use Rattle.ritas_base.specs.Slots.{form_of, is_atomic}
 use Rattle.frame_codec.specs.Body.{IsInGrammar}
 use Rattle.frame_codec.specs.Inputs.{input_format}
 use Rattle.frame_codec.proofs.Formats.{is_read}
 use Rattle.frame_codec.specs.Format.{Format, Done, Number, Block, Plain, Left, ◌>>◌, ◌>>=◌, read}
-use Rattle.frame_codec.specs.Grammar.{carries_digest, digest, any, id_of, no_ids, with_id, comes_after, ids_from, ids, is_places, entry, times, vector, class1, class2, class3, vect, bit, value, hashes, column, payload}
+use Rattle.frame_codec.specs.Grammar.{carries_digest, digest, any, id_of, run_of, no_ids, with_id, comes_after, ids_from, ids, any_ids, is_places, entry, times, vector, class1, class2, class3, vect, bit, value, hashes, column, payload}
 
 abbrev pub IsShort : ℕ → Format → Type 0
 IsShort k Done = Unit {0}
@@ -98,9 +98,9 @@ ids_short n zero run k five enough = tt
 ids_short n (suc count) run k five enough = (
   five,
   λ b ok.
-      let parts = and_parts (ltb (id_of b).origin n) (ltb (id_of b).num number_limit && (ltb run.total most_ids && comes_after n run.last run.same (id_of b))) ok in
-      let others = and_parts (ltb (id_of b).num number_limit) (ltb run.total most_ids && comes_after n run.last run.same (id_of b)) parts.1 in
-      let few : run.total < most_ids = ltb-true _ _ (and_parts (ltb run.total most_ids) (comes_after n run.last run.same (id_of b)) others.1).0 in
+      let parts = and_parts (ltb (id_of b).origin n) (ltb (id_of b).num number_limit && (ltb run.total most_ids && comes_after run.share run.last run.same (id_of b))) ok in
+      let others = and_parts (ltb (id_of b).num number_limit) (ltb run.total most_ids && comes_after run.share run.last run.same (id_of b)) parts.1 in
+      let few : run.total < most_ids = ltb-true _ _ (and_parts (ltb run.total most_ids) (comes_after run.share run.last run.same (id_of b)) others.1).0 in
       ids_short n count (with_id run (id_of b)) (k - 5) (omega arith) (omega arith),
 )
 
@@ -118,7 +118,7 @@ unfolding entry
 entry_short n root = (
   lit≤ tt,
   λ len ok.
-      choice_short (eqb root 6) 512 (ids_from n (len / 5) no_ids) (Block len any (λ _. Done)) (ids_short n (len / 5) no_ids 512 (lit≤ tt) (lit≤ tt)) (len_most (eqb root 6) len ok, λ x y. tt),
+      choice_short (is_atomic root) 512 (ids_from n (len / 5) (no_ids n)) (Block len any (λ _. Done)) (ids_short n (len / 5) (no_ids n) 512 (lit≤ tt) (lit≤ tt)) (len_most (is_atomic root) len ok, λ x y. tt),
 )
 
 vector_short : (p : Numbers) (root : ℕ) → IsSession p → IsShort 15938 (vector p root)
@@ -133,11 +133,17 @@ vector_short p root is = (
 
 class2_short : (p : Numbers) (root : ℕ) → IsShort 15942 (class2 p root)
 unfolding class2 ids
-class2_short p root = choice_short (eqb root 6) 15942 (ids p.n) (Plain 1 longest_entry) (λ len. ids_short p.n ((len - 1) / 5 + 1) no_ids 15942 (lit≤ tt) (lit≤ tt)) (lit≤ tt, lit≤ tt)
+class2_short p root = choice_short (is_atomic root) 15942 (ids p.n) (Plain 1 longest_entry) (λ len. ids_short p.n ((len - 1) / 5 + 1) (no_ids p.n) 15942 (lit≤ tt) (lit≤ tt)) (lit≤ tt, lit≤ tt)
+
+any_short : (n : ℕ) → IsShort 15938 (any_ids n)
+unfolding any_ids
+any_short n = λ len. ids_short n ((len + 4) / 5) (run_of most_ids) 15938 (lit≤ tt) (lit≤ tt)
 
 class3_short : (p : Numbers) (root : ℕ) → IsSession p → IsShort 15938 (class3 p root)
 unfolding class3
-class3_short p root is = choice_short (eqb root 4) 15938 (Plain 1 longest_input) (vector p root) (lit≤ tt, lit≤ tt) (vector_short p root is)
+class3_short p root is =
+    choice_short (eqb root 4) 15938 (Plain 1 longest_input) _ (lit≤ tt, lit≤ tt)
+    (choice_short (eqb root 7) 15938 (any_ids p.n) (vector p root) (any_short p.n) (vector_short p root is))
 
 vect_short : (p : Numbers) (root : ℕ) → IsSession p → IsShort 15942 (vect p root)
 unfolding vect
@@ -154,7 +160,7 @@ plain_short false = (lit≤ tt, lit≤ tt)
 
 class1_short : (root : ℕ) → IsShort 15942 (class1 root)
 unfolding class1
-class1_short root = plain_short (eqb root 6)
+class1_short root = plain_short (is_atomic root)
 
 value_short : (p : Numbers) (root : ℕ) (s : Slot) → IsSession p → IsShort 15942 (value p root s)
 unfolding value
@@ -208,5 +214,5 @@ pub input_short : (p : Numbers) (root : ℕ) → IsShort 15942 (input_format p r
 unfolding input_format class3
 input_short p root =
     choice_short (eqb root 3) 15942 (bit 1) _ (bit_short 1)
-    (choice_when (eqb root 4) 15942 (class3 p root) _ (λ e. plain_when (eqb root 4) (vector p root) e)
+    (choice_when (eqb root 4) 15942 (class3 p root) _ (λ e. plain_when (eqb root 4) _ e)
     (choice_short (eqb root 5) 15942 (class2 p root) (class1 root) (class2_short p root) (class1_short root)))

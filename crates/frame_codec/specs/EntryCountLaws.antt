@@ -1,5 +1,5 @@
 -- How many entries of a vector pass a test is how many replicas have a place with one that does.
-use Rattle.std.specs.Prelude.{◌≡◌, ℕ, zero, suc, ◌+◌, ◌<◌, ◌≤◌, ◌^◌, ◌%◌, Bool, true, false, ◌&&◌, nat_lt, List, [], length, take, drop, count_by, cond, Option, None, refl}
+use Rattle.std.specs.Prelude.{◌≡◌, ℕ, zero, suc, ◌+◌, ◌<◌, ◌≤◌, ◌^◌, Bool, true, false, nat_lt, List, [], length, take, drop, count_by, cond, None, refl}
 use Rattle.std.specs.List.{slice_get, range_with_len}
 use Rattle.std.specs.Int.{w32, from_be_bytes}
 use Rattle.std.specs.Int.RustNames.{count_ones}

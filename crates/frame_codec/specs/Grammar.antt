@@ -3,7 +3,7 @@ use Rattle.std.specs.Prelude.{ℕ, zero, suc, ◌+◌, ◌-◌, ◌*◌, ◌/◌
 use Rattle.std.specs.Int.{w8, w16, w32, from_be_bytes}
 use Rattle.std.specs.Int.RustNames.{count_ones}
 use Rattle.ritas_base.specs.Numbers.{Numbers, wait_of, support_of}
-use Rattle.ritas_base.specs.Slots.{within, form_of}
+use Rattle.ritas_base.specs.Slots.{within, form_of, is_atomic}
 use Rattle.ritas_base.specs.declared.slot.Slot.{Slot}
 use Rattle.ritas_base.specs.declared.item.Kind.{Kind}
 use Rattle.ritas_base.specs.declared.mode.Mode.{Mode}
@@ -22,18 +22,23 @@ any bytes = true
 abbrev pub id_of : List ℕ → Id
 id_of bytes = record { origin = slice_index bytes 0; num = from_be_bytes w32 (drop 1 bytes) }
 
-abbrev pub no_ids : Run
-no_ids = record { last = None; same = 0; total = 0 }
+-- before any identifier, where so many may have one origin
+abbrev pub run_of : ℕ → Run
+run_of share = record { share = share; last = None; same = 0; total = 0 }
+
+-- where each of n origins has an equal share
+abbrev pub no_ids : ℕ → Run
+no_ids n = run_of (share_of n)
 
 -- whether an identifier may stand behind those so far
 abbrev pub comes_after : ℕ → Option Id → ℕ → Id → Bool
-comes_after n None same x = true
-comes_after n (Some last) same x =
-    nat_lt last.origin x.origin || (x.origin == last.origin && (nat_lt last.num x.num && nat_lt same (share_of n)))
+comes_after share None same x = true
+comes_after share (Some last) same x =
+    nat_lt last.origin x.origin || (x.origin == last.origin && (nat_lt last.num x.num && nat_lt same share))
 
 abbrev pub admits : ℕ → Run → Id → Bool
 admits n run x =
-    nat_lt x.origin n && (nat_lt x.num number_limit && (nat_lt run.total most_ids && comes_after n run.last run.same x))
+    nat_lt x.origin n && (nat_lt x.num number_limit && (nat_lt run.total most_ids && comes_after run.share run.last run.same x))
 
 abbrev pub has_origin : Option Id → Id → Bool
 has_origin None x = false
@@ -41,6 +46,7 @@ has_origin (Some last) x = x.origin == last.origin
 
 abbrev pub with_id : Run → Id → Run
 with_id run x = record {
+  share = run.share;
   last = Some x;
   same = if has_origin run.last x then run.same + 1 else 1;
   total = run.total + 1;
@@ -56,7 +62,11 @@ ids_from n (suc count) run = Block 5 (λ b. admits n run (id_of b)) (λ b. ids_f
 
 -- all bytes that are left, in pieces of five; the last may be short, and there is one
 unfoldable pub ids : ℕ → Format
-ids n = Left (λ len. ids_from n ((len - 1) / 5 + 1) no_ids)
+ids n = Left (λ len. ids_from n ((len - 1) / 5 + 1) (no_ids n))
+
+-- a list that may have none, and as many of one origin as it has at all
+unfoldable pub any_ids : ℕ → Format
+any_ids n = Left (λ len. ids_from n ((len + 4) / 5) (run_of most_ids))
 
 -- ---- vectors
 
@@ -65,10 +75,10 @@ abbrev pub is_places : ℕ → ℕ → ℕ → Bool
 is_places n least mask = nat_lt mask (2 ^ n) && nat_le least (count_ones mask)
 
 abbrev pub is_entry_len : ℕ → ℕ → Bool
-is_entry_len root len = if root == 6 then within 5 longest_ids len && len % 5 == 0 else within 1 longest_entry len
+is_entry_len root len = if is_atomic root then within 5 longest_ids len && len % 5 == 0 else within 1 longest_entry len
 
 unfoldable pub entry : ℕ → ℕ → Format
-entry n root = Number w16 (is_entry_len root) (λ len. if root == 6 then ids_from n (len / 5) no_ids else Block len any (λ _. Done))
+entry n root = Number w16 (is_entry_len root) (λ len. if is_atomic root then ids_from n (len / 5) (no_ids n) else Block len any (λ _. Done))
 
 unfoldable pub times : ℕ → Format → Format
 times zero format = Done
@@ -79,15 +89,15 @@ vector p root = Number w32 (is_places p.n (wait_of p)) (λ mask. times (count_on
 
 -- ---- the values of slots
 
--- a command; in root service 6 it begins with the client's and the request's number
+-- a command; in the root services of atomic broadcast it begins with the client's and the request's number
 unfoldable pub class1 : ℕ → Format
-class1 root = Plain (if root == 6 then least_request else 1) longest_input
+class1 root = Plain (if is_atomic root then least_request else 1) longest_input
 
 unfoldable pub class2 : Numbers → ℕ → Format
-class2 p root = if root == 6 then ids p.n else Plain 1 longest_entry
+class2 p root = if is_atomic root then ids p.n else Plain 1 longest_entry
 
 unfoldable pub class3 : Numbers → ℕ → Format
-class3 p root = if root == 4 then Plain 1 longest_input else vector p root
+class3 p root = if root == 4 then Plain 1 longest_input else if root == 7 then any_ids p.n else vector p root
 
 -- none, or the places that it came from and a value of class 3
 unfoldable pub vect : Numbers → ℕ → Format

@@ -17,6 +17,13 @@ Ascends (x ∷ y ∷ xs) = IsBelow x y × Ascends (y ∷ xs)
 abbrev pub of_origin : ℕ → List Id → ℕ
 of_origin k xs = count_by (λ x. x.origin == k) xs
 
+-- an identifier list of any shares
+pub record AreAnyIds (n : ℕ) (xs : List Id) : Type 0 where
+  pub most : length xs ≤ most_ids
+  pub in_range : AllByRecursion (λ x. (x.origin < n) × (x.num < number_limit)) xs
+  pub ascending : Ascends xs
+
+-- and one in which each origin has an equal share
 pub record AreIds (n : ℕ) (xs : List Id) : Type 0 where
   pub most : length xs ≤ most_ids
   pub in_range : AllByRecursion (λ x. (x.origin < n) × (x.num < number_limit)) xs

@@ -1,4 +1,4 @@
--- The inputs of the root services: commands in 1, 2 and 6, a bit in 3, and proposals in 4 and 5.
+-- The inputs of the root services: commands in 1, 2, 6 and 7, a bit in 3, and proposals in 4 and 5.
 use Rattle.std.specs.Prelude.{ℕ, ◌-◌, Bool, ◌==◌, ◌&&◌, List, length, Option, Some, None, Result, Ok, Err, if◌then◌else◌}
 use Rattle.ritas_base.specs.Numbers.{Numbers}
 use Rattle.ritas_base.specs.declared.slot.Slot.{Slot}

@@ -6,6 +6,7 @@ use Rattle.std.specs.Int.RustNames.{count_ones}
 use Rattle.std.proofs.lemmas.Bool.{eqb-true, and_parts}
 use Rattle.std.proofs.lemmas.List.{take_at, drop_at, drop-drop, length-append}
 use Rattle.ritas_base.specs.Numbers.{Numbers}
+use Rattle.ritas_base.specs.Slots.{is_atomic}
 use Rattle.frame_codec.specs.Limits.{longest_ids, longest_entry}
 use Rattle.frame_codec.specs.declared.ids.Run.{Run}
 use Rattle.frame_codec.specs.Format.{Format, Done, Number, Block, Plain, Left, Is, ◌>>◌}
@@ -58,7 +59,7 @@ choice_fixed false a b x y = y
 
 pub entry_fixed : (n root : ℕ) → IsFixed (entry n root)
 unfolding entry
-entry_fixed n root = λ (len : ℕ). choice_fixed (eqb root 6) (ids_from n (len / 5) no_ids) (Block len any (λ _. Done)) (ids_fixed n (len / 5) no_ids) (λ b. tt)
+entry_fixed n root = λ (len : ℕ). choice_fixed (is_atomic root) (ids_from n (len / 5) (no_ids n)) (Block len any (λ _. Done)) (ids_fixed n (len / 5) (no_ids n)) (λ b. tt)
 
 pub ids_length : (n count : ℕ) (run : Run) (text : List ℕ) → Is (ids_from n count run) text → length text ≡ 5 * count
 unfolding ids_from
@@ -68,10 +69,10 @@ ids_length n (suc count) run text (f, r, parts, len, ok, more) =
     ap length parts ∙ omega (arith, length-append f r, len, others)
 
 pub entry_length : (t : Bool) (n len : ℕ) (text : List ℕ) → cond t (leb 5 len && leb len longest_ids && eqb (len % 5) 0) (leb 1 len && leb len longest_entry) ≡ true
-    → Is (cond t (ids_from n (len / 5) no_ids) (Block len any (λ _. Done))) text → length text ≡ len
+    → Is (cond t (ids_from n (len / 5) (no_ids n)) (Block len any (λ _. Done))) text → length text ≡ len
 entry_length true n len text ok is =
     let zero_rest : len % 5 ≡ 0 = eqb-true (len % 5) 0 (and_parts (leb 5 len && leb len longest_ids) (eqb (len % 5) 0) ok).1 in
-    let l = ids_length n (len / 5) no_ids text is in
+    let l = ids_length n (len / 5) (no_ids n) text is in
     omega (arith, l, zero_rest)
 entry_length false n len text ok (f, r, parts, l, good, nil) =
     ap length parts ∙ omega (arith, length-append f r, l, ap length nil)
@@ -86,7 +87,7 @@ entry_front : (n root : ℕ) (front rest : List ℕ) → Is (entry n root) front
 unfolding entry len_in
 entry_front n root front rest (f, r, parts, two, ok, more) =
     let len = from_be_bytes w16 f in
-    let same : length r ≡ len = entry_length (eqb root 6) n len r ok more in
+    let same : length r ≡ len = entry_length (is_atomic root) n len r ok more in
     let whole : front ++ rest ≡ f ++ (r ++ rest) = ap (λ (l : List ℕ). l ++ rest) parts ∙ append_assoc f r rest in
     let head : take 2 (f ++ (r ++ rest)) ≡ f = take_at f (r ++ rest) 2 two in
     let tail : drop 2 (f ++ (r ++ rest)) ≡ r ++ rest = drop_at f (r ++ rest) 2 two in

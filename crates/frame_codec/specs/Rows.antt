@@ -1,6 +1,7 @@
 -- Some bodies and their answers, and some inputs and what is wrong with them, where there are four replicas and one may
 -- be faulty.
-use Rattle.std.specs.Prelude.{◌≡◌, ℕ, ◌+◌, List, [], ◌∷◌, ◌++◌, take, Some, None, Result, Ok, Err, replicate, refl}
+use Rattle.std.specs.Prelude.{◌≡◌, ℕ, ◌+◌, List, [], ◌∷◌, ◌++◌, take, Some, None, Result, Ok, Err, replicate, map, refl}
+use Rattle.std.specs.List.{range_with_len}
 use Rattle.std.proofs.Common.{lit≤}
 use Rattle.std.specs.Int.RustNames.{count_ones}
 use Rattle.ritas_base.specs.Members.{has_member, member_count}
@@ -13,18 +14,22 @@ use Rattle.ritas_base.specs.declared.mode.FrameVersion.TheVariants.{One, Two}
 use Rattle.ritas_base.specs.declared.item.Kind.{Kind as a_kind}
 use Rattle.ritas_base.specs.declared.item.Kind.TheVariants as kinds
 use Rattle.ritas_base.specs.declared.item.Item.{Item}
+use Rattle.ritas_base.specs.declared.id.Id.{Id}
 use Rattle.ritas_base.specs.declared.item.Kind.TheVariants.{Init}
 use Rattle.ritas_base.specs.Limits.{longest_input}
 use Rattle.frame_codec.specs.Limits.{longest_entry}
 use Rattle.frame_codec.specs.declared.fault.BodyFault.{BodyFault}
 use Rattle.frame_codec.specs.declared.fault.BodyFault.TheVariants.{Kind, Slot as SlotWrong, Payload, Rest}
-use Rattle.frame_codec.specs.Grammar.{ids_from, ids, class1, class2, class3, vect, bit, value, digest, payload}
+use Rattle.frame_codec.specs.Grammar.{ids_from, ids, any_ids, class1, class2, class3, vect, bit, value, digest, payload}
 use Rattle.frame_codec.specs.Body.{slot_of, head_answer, body_answer}
 use Rattle.frame_codec.specs.Inputs.{input_format, input_fault}
-use Rattle.frame_codec.specs.Values.{mask_of, at_place, rows_in, column_row}
+use Rattle.frame_codec.specs.Values.{ids_bytes, mask_of, at_place, rows_in, column_row}
 
 abbrev four : Numbers
 four = record { n = 4; f = 1 }
+
+abbrev many : Numbers
+many = record { n = 31; f = 10 }
 
 -- the root services
 
@@ -42,6 +47,9 @@ five = record { root = 5; vect = Echo; version = One; low = lit≤ tt; high = li
 
 abbrev six : Mode
 six = record { root = 6; vect = Echo; version = One; low = lit≤ tt; high = lit≤ tt }
+
+abbrev seven : Mode
+seven = record { root = 7; vect = Echo; version = One; low = lit≤ tt; high = lit≤ tt }
 
 -- ---- bodies, from replica 2
 
@@ -121,6 +129,77 @@ unmarked_in_step_3 = refl
 list_of_one_identifier : body_answer four six 2 (1 ∷ 2 ∷ 0 ∷ 0 ∷ 0 ∷ 0 ∷ 0 ∷ 0 ∷ 0 ∷ 0 ∷ 0 ∷ 0 ∷ 0 ∷ 0 ∷ 0 ∷ []) ≡ init 2 0 0 (0 ∷ 0 ∷ 0 ∷ 0 ∷ 0 ∷ [])
 unfolding body_answer head_answer slot_of slot_fault has_class by_echo form_of payload digest value class1 class2 class3 vect bit ids ids_from
 list_of_one_identifier = refl
+
+-- ---- root service 7
+
+-- the first commands of replica 0
+abbrev so_many : ℕ → List Id
+so_many count = map (λ k. record { origin = 0; num = k }) (range_with_len 0 count)
+
+-- an empty list is a value of class 3
+empty_list_7 : body_answer four seven 2 (1 ∷ 3 ∷ 0 ∷ 0 ∷ 0 ∷ 0 ∷ 0 ∷ 0 ∷ 0 ∷ 0 ∷ []) ≡ init 3 0 0 []
+unfolding body_answer head_answer slot_of slot_fault has_class by_echo form_of payload digest value class1 class2 class3 vect bit ids any_ids ids_from count_ones
+empty_list_7 = refl
+
+-- and none of class 2
+empty_list_proposed_7 : body_answer four seven 2 (1 ∷ 2 ∷ 0 ∷ 0 ∷ 0 ∷ 0 ∷ 0 ∷ 0 ∷ 0 ∷ 0 ∷ []) ≡ Err (Payload 10)
+unfolding body_answer head_answer slot_of slot_fault has_class by_echo form_of payload digest value class1 class2 class3 vect bit ids any_ids ids_from count_ones
+empty_list_proposed_7 = refl
+
+-- there is one try
+no_second_try_7 : body_answer four seven 2 (1 ∷ 3 ∷ 0 ∷ 0 ∷ 0 ∷ 0 ∷ 1 ∷ 0 ∷ 0 ∷ 0 ∷ []) ≡ Err (SlotWrong Attempt)
+unfolding body_answer head_answer slot_of slot_fault has_class by_echo form_of payload digest value class1 class2 class3 vect bit ids any_ids ids_from count_ones
+no_second_try_7 = refl
+
+-- an identifier that is cut off
+part_of_an_identifier_7 : body_answer four seven 2 (1 ∷ 3 ∷ 0 ∷ 0 ∷ 0 ∷ 0 ∷ 0 ∷ 0 ∷ 0 ∷ 0 ∷ 0 ∷ 0 ∷ 0 ∷ []) ≡ Err (Payload 13)
+unfolding body_answer head_answer slot_of slot_fault has_class by_echo form_of payload digest value class1 class2 class3 vect bit ids any_ids ids_from count_ones
+part_of_an_identifier_7 = refl
+
+-- two out of order
+list_out_of_order_7 : body_answer four seven 2 (1 ∷ 3 ∷ 0 ∷ 0 ∷ 0 ∷ 0 ∷ 0 ∷ 0 ∷ 0 ∷ 0 ∷ 1 ∷ 0 ∷ 0 ∷ 0 ∷ 0 ∷ 0 ∷ 0 ∷ 0 ∷ 0 ∷ 9 ∷ []) ≡ Err (Payload 15)
+unfolding body_answer head_answer slot_of slot_fault has_class by_echo form_of payload digest value class1 class2 class3 vect bit ids any_ids ids_from count_ones
+list_out_of_order_7 = refl
+
+-- of 31 replicas each has a share of two in what is proposed
+share_passed_7 : body_answer many seven 2 (1 ∷ 2 ∷ 0 ∷ 0 ∷ 0 ∷ 0 ∷ 0 ∷ 0 ∷ 0 ∷ 0 ∷ 0 ∷ 0 ∷ 0 ∷ 0 ∷ 0 ∷ 0 ∷ 0 ∷ 0 ∷ 0 ∷ 1 ∷ 0 ∷ 0 ∷ 0 ∷ 0 ∷ 2 ∷ []) ≡ Err (Payload 20)
+unfolding body_answer head_answer slot_of slot_fault has_class by_echo form_of payload digest value class1 class2 class3 vect bit ids any_ids ids_from count_ones
+share_passed_7 = refl
+
+-- and none in what is decided
+no_share_7 : body_answer many seven 2 (1 ∷ 3 ∷ 0 ∷ 0 ∷ 0 ∷ 0 ∷ 0 ∷ 0 ∷ 0 ∷ 0 ∷ 0 ∷ 0 ∷ 0 ∷ 0 ∷ 0 ∷ 0 ∷ 0 ∷ 0 ∷ 0 ∷ 1 ∷ 0 ∷ 0 ∷ 0 ∷ 0 ∷ 2 ∷ []) ≡ init 3 0 0 (0 ∷ 0 ∷ 0 ∷ 0 ∷ 0 ∷ 0 ∷ 0 ∷ 0 ∷ 0 ∷ 1 ∷ 0 ∷ 0 ∷ 0 ∷ 0 ∷ 2 ∷ [])
+unfolding body_answer head_answer slot_of slot_fault has_class by_echo form_of payload digest value class1 class2 class3 vect bit ids any_ids ids_from count_ones
+no_share_7 = refl
+
+-- a VECT of none is empty
+none_7 : body_answer four seven 2 (4 ∷ 4 ∷ 0 ∷ 0 ∷ 0 ∷ 0 ∷ 0 ∷ 0 ∷ 0 ∷ 0 ∷ []) ≡ Ok (record { from = 2; kind = kinds.Send; slot = record { class = 4; a = 0; attempt = 0; bround = 0; step = 0; origin = 0 }; value = [] })
+unfolding body_answer head_answer slot_of slot_fault has_class by_echo form_of payload digest value class1 class2 class3 vect bit ids any_ids ids_from count_ones
+none_7 = refl
+
+-- that of the empty list is its mask
+vect_of_no_identifiers_7 : body_answer four seven 2 (4 ∷ 4 ∷ 0 ∷ 0 ∷ 0 ∷ 0 ∷ 0 ∷ 0 ∷ 0 ∷ 0 ∷ 0 ∷ 0 ∷ 0 ∷ 3 ∷ []) ≡ Ok (record { from = 2; kind = kinds.Send; slot = record { class = 4; a = 0; attempt = 0; bround = 0; step = 0; origin = 0 }; value = 0 ∷ 0 ∷ 0 ∷ 3 ∷ [] })
+unfolding body_answer head_answer slot_of slot_fault has_class by_echo form_of payload digest value class1 class2 class3 vect bit ids any_ids ids_from count_ones
+vect_of_no_identifiers_7 = refl
+
+-- of n - 2f places at least
+vect_of_too_few_7 : body_answer four seven 2 (4 ∷ 4 ∷ 0 ∷ 0 ∷ 0 ∷ 0 ∷ 0 ∷ 0 ∷ 0 ∷ 0 ∷ 0 ∷ 0 ∷ 0 ∷ 1 ∷ []) ≡ Err (Payload 10)
+unfolding body_answer head_answer slot_of slot_fault has_class by_echo form_of payload digest value class1 class2 class3 vect bit ids any_ids ids_from count_ones
+vect_of_too_few_7 = refl
+
+-- the 65th identifier is wrong
+sixty_five_7 : body_answer four seven 2 (1 ∷ 3 ∷ 0 ∷ 0 ∷ 0 ∷ 0 ∷ 0 ∷ 0 ∷ 0 ∷ 0 ∷ ids_bytes (so_many 65)) ≡ Err (Payload 330)
+unfolding body_answer head_answer slot_of slot_fault has_class by_echo form_of payload digest value class1 class2 class3 vect bit ids any_ids ids_from count_ones
+sixty_five_7 = refl
+
+-- sixty-four are right
+sixty_four_7 : body_answer four seven 2 (1 ∷ 3 ∷ 0 ∷ 0 ∷ 0 ∷ 0 ∷ 0 ∷ 0 ∷ 0 ∷ 0 ∷ ids_bytes (so_many 64)) ≡ init 3 0 0 (ids_bytes (so_many 64))
+unfolding body_answer head_answer slot_of slot_fault has_class by_echo form_of payload digest value class1 class2 class3 vect bit ids any_ids ids_from count_ones
+sixty_four_7 = refl
+
+-- a command begins with the client and the request
+short_command_7 : body_answer four seven 2 (1 ∷ 1 ∷ 0 ∷ 0 ∷ 0 ∷ 0 ∷ 0 ∷ 0 ∷ 0 ∷ 0 ∷ 97 ∷ []) ≡ Err (Payload 11)
+unfolding body_answer head_answer slot_of slot_fault has_class by_echo form_of payload digest value class1 class2 class3 vect bit ids any_ids ids_from count_ones
+short_command_7 = refl
 
 -- ---- bodies of version 2
 

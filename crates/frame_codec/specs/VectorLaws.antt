@@ -8,6 +8,7 @@ use Rattle.std.proofs.lemmas.List.{take_at, drop_at, append-nil, length-take, ge
 use Rattle.std.proofs.lemmas.List.Concat.{flat_map-cons}
 use Rattle.std.proofs.lemmas.Nat.{be_bytes_2, be_bytes_4, from_be_bytes-to_be_bytes_2, from_be_bytes-to_be_bytes_4}
 use Rattle.ritas_base.specs.Numbers.{Numbers, wait_of}
+use Rattle.ritas_base.specs.Slots.{is_atomic}
 use Rattle.ritas_base.specs.Limits.{number_limit}
 use Rattle.frame_codec.specs.Limits.{most_ids, longest_ids, longest_entry}
 use Rattle.frame_codec.specs.declared.ids.Run.{Run}
@@ -23,9 +24,9 @@ ids_count : (n count : ℕ) (run : Run) (text : List ℕ) → Is (ids_from n cou
 unfolding ids_from
 ids_count n zero run text is some = absurd (omega arith)
 ids_count n (suc zero) run text (f, r, parts, len, ok, more) some =
-    let a = and_parts (ltb (id_of f).origin n) (ltb (id_of f).num number_limit && (ltb run.total most_ids && comes_after n run.last run.same (id_of f))) ok in
-    let b = and_parts (ltb (id_of f).num number_limit) (ltb run.total most_ids && comes_after n run.last run.same (id_of f)) a.1 in
-    let few : run.total < most_ids = ltb-true _ _ (and_parts (ltb run.total most_ids) (comes_after n run.last run.same (id_of f)) b.1).0 in
+    let a = and_parts (ltb (id_of f).origin n) (ltb (id_of f).num number_limit && (ltb run.total most_ids && comes_after run.share run.last run.same (id_of f))) ok in
+    let b = and_parts (ltb (id_of f).num number_limit) (ltb run.total most_ids && comes_after run.share run.last run.same (id_of f)) a.1 in
+    let few : run.total < most_ids = ltb-true _ _ (and_parts (ltb run.total most_ids) (comes_after run.share run.last run.same (id_of f)) b.1).0 in
     omega arith
 ids_count n (suc (suc count)) run text (f, r, parts, len, ok, more) some =
     let others = ids_count n (suc count) (with_id run (id_of f)) r more (omega arith) in
@@ -34,14 +35,14 @@ ids_count n (suc (suc count)) run text (f, r, parts, len, ok, more) some =
 -- ---- an entry is a length and a value of class 2
 
 class2_from : (t : Bool) (n len : ℕ) (e : List ℕ) → cond t (leb 5 len && leb len longest_ids && eqb (len % 5) 0) (leb 1 len && leb len longest_entry) ≡ true → length e ≡ len
-    → Is (cond t (ids_from n (len / 5) no_ids) (Block len any (λ _. Done))) e → Is (cond t (ids n) (Plain 1 longest_entry)) e
+    → Is (cond t (ids_from n (len / 5) (no_ids n)) (Block len any (λ _. Done))) e → Is (cond t (ids n) (Plain 1 longest_entry)) e
 unfolding ids
 class2_from true n len e ok same is =
     let a = and_parts (leb 5 len && leb len longest_ids) (eqb (len % 5) 0) ok in
     let five : 5 ≤ len = leb-true 5 len (and_parts (leb 5 len) (leb len longest_ids) a.0).0 in
     let whole : len % 5 ≡ 0 = eqb-true (len % 5) 0 a.1 in
     let count : len / 5 ≡ (length e - 1) / 5 + 1 = omega arith in
-    subst (λ (c : ℕ). Is (ids_from n c no_ids) e) count is
+    subst (λ (c : ℕ). Is (ids_from n c (no_ids n)) e) count is
 class2_from false n len e ok same is =
     let b = and_parts (leb 1 len) (leb len longest_entry) ok in
     let low = leb-true 1 len b.0 in
@@ -58,39 +59,39 @@ pub entry_parts : (p : Numbers) (root : ℕ) (text : List ℕ) → Is (entry p.n
 unfolding entry class2
 entry_parts p root text (f, r, parts, two, ok, more) =
     let len = from_be_bytes w16 f in
-    let same : length r ≡ len = entry_length (eqb root 6) p.n len r ok more in
-    (f, r, record { parts = parts; two = two; says = sym same; right = class2_from (eqb root 6) p.n len r ok same more })
+    let same : length r ≡ len = entry_length (is_atomic root) p.n len r ok more in
+    (f, r, record { parts = parts; two = two; says = sym same; right = class2_from (is_atomic root) p.n len r ok same more })
 
 class2_most : (t : Bool) (n : ℕ) (e : List ℕ) → Is (cond t (ids n) (Plain 1 longest_entry)) e → (1 ≤ length e) × (length e ≤ longest_entry)
 unfolding ids
 class2_most true n e is =
     let count = (length e - 1) / 5 + 1 in
-    let same : length e ≡ 5 * count = ids_length n count no_ids e is in
+    let same : length e ≡ 5 * count = ids_length n count (no_ids n) e is in
     let some : 0 < count = omega arith in
-    let few : 0 + count ≤ most_ids = ids_count n count no_ids e is some in
+    let few : 0 + count ≤ most_ids = ids_count n count (no_ids n) e is some in
     (omega (arith, same, some), omega (arith, same, few))
 class2_most false n e is = is
 
 pub class2_short : (p : Numbers) (root : ℕ) (value : List ℕ) → Is (class2 p root) value → (1 ≤ length value) × (length value ≤ longest_entry)
 unfolding class2
-class2_short p root value is = class2_most (eqb root 6) p.n value is
+class2_short p root value is = class2_most (is_atomic root) p.n value is
 
 class2_len : (t : Bool) (n : ℕ) (e : List ℕ) → Is (cond t (ids n) (Plain 1 longest_entry)) e
     → (length e < 2 ^ 16) × (cond t (leb 5 (length e) && leb (length e) longest_ids && eqb (length e % 5) 0) (leb 1 (length e) && leb (length e) longest_entry) ≡ true)
-    × Is (cond t (ids_from n (length e / 5) no_ids) (Block (length e) any (λ _. Done))) e
+    × Is (cond t (ids_from n (length e / 5) (no_ids n)) (Block (length e) any (λ _. Done))) e
 unfolding ids
 class2_len true n e is =
     let count = (length e - 1) / 5 + 1 in
-    let same : length e ≡ 5 * count = ids_length n count no_ids e is in
+    let same : length e ≡ 5 * count = ids_length n count (no_ids n) e is in
     let some : 0 < count = omega arith in
-    let few : 0 + count ≤ most_ids = ids_count n count no_ids e is some in
+    let few : 0 + count ≤ most_ids = ids_count n count (no_ids n) e is some in
     let low : 5 ≤ length e = omega arith in
     let high : length e ≤ longest_ids = omega arith in
     let whole : length e % 5 ≡ 0 = omega arith in
     let pieces : count ≡ length e / 5 = omega arith in (
       omega arith,
       and_from (leb 5 (length e) && leb (length e) longest_ids) (eqb (length e % 5) 0) (and_from (leb 5 (length e)) (leb (length e) longest_ids) (le-leb _ _ low) (le-leb _ _ high)) (eq-eqb _ _ whole),
-      subst (λ (c : ℕ). Is (ids_from n c no_ids) e) pieces is,
+      subst (λ (c : ℕ). Is (ids_from n c (no_ids n)) e) pieces is,
     )
 class2_len false n e is = (
   omega (arith, is.1),
@@ -101,14 +102,14 @@ class2_len false n e is = (
 pub entry_written : (p : Numbers) (root : ℕ) (e : List ℕ) → Is (class2 p root) e → Is (entry p.n root) (entry_bytes e)
 unfolding entry class2
 entry_written p root e is =
-    let c = class2_len (eqb root 6) p.n e is in
+    let c = class2_len (is_atomic root) p.n e is in
     let back : from_be_bytes w16 (to_be_bytes w16 (length e)) ≡ length e = from_be_bytes-to_be_bytes_2 (length e) c.0 in (
       to_be_bytes w16 (length e),
       e,
       refl,
       refl,
       ap (is_entry_len root) back ∙ c.1,
-      subst (λ (len : ℕ). Is (cond (eqb root 6) (ids_from p.n (len / 5) no_ids) (Block len any (λ _. Done))) e) (sym back) c.2,
+      subst (λ (len : ℕ). Is (cond (is_atomic root) (ids_from p.n (len / 5) (no_ids p.n)) (Block len any (λ _. Done))) e) (sym back) c.2,
     )
 
 entries_written : (p : Numbers) (root : ℕ) (es : List (List ℕ)) → AllByRecursion (Is (class2 p root)) es → Is (times (length es) (entry p.n root)) (flat_map entry_bytes es)

@@ -75,7 +75,7 @@ pub fn right_input()
     ensures { InputsFaultless }
 {}
 
-/// An input is the value of the slots that it is for: in root services 1, 2 and 6 of an origin's command.
+/// An input is the value of the slots that it is for: in root services 1, 2, 6 and 7 of an origin's command.
 ///
 /// It does nothing: its contract is the law.
 pub fn input_is_value()

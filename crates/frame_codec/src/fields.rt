@@ -2,11 +2,13 @@
 
 ghost use Rattle.std.specs.Prelude.{◌≡◌, ◌≤◌, ◌<◌, ◌*◌, ℕ, suc, true, nat_lt};
 ghost use Rattle.std.specs.Int.{w8, w16, w32};
+ghost use Rattle.ritas_base.specs.RootServices.{root_number};
 ghost use Rattle.frame_codec.specs.Format.{Gives, read, number_at, block_at, plain_at};
 ghost use Rattle.frame_codec.specs.Grammar.{any, is_places, is_entry_len};
 
 use crate::fault::Wrong;
 use crate::limits::{LONGEST_ENTRY, LONGEST_IDS};
+use ritas_base::RootService;
 
 /// All bytes, of which there are at least and at most so many.
 pub(crate) fn plain(low: usize, high: usize, bytes: &[u8]) -> Result<&[u8], Wrong>
@@ -47,12 +49,12 @@ pub(crate) fn places(n: u8, least: u8, bytes: &[u8]) -> Result<(u32, &[u8]), Wro
 }
 
 /// The length of a vector's entry.
-pub(crate) fn entry_len(root: u8, bytes: &[u8]) -> Result<(usize, &[u8]), Wrong>
-    ensures { Gives (λ x. (x.0, x.1.now)) result (number_at w16 (is_entry_len root) bytes.now) }
+pub(crate) fn entry_len(service: RootService, bytes: &[u8]) -> Result<(usize, &[u8]), Wrong>
+    ensures { Gives (λ x. (x.0, x.1.now)) result (number_at w16 (is_entry_len (root_number service)) bytes.now) }
 {
     let (front, rest) = block(2, bytes)?;
     let len = usize::from(u16::from_be_bytes([front[0], front[1]]));
-    let is_good = if root == 6 {
+    let is_good = if service.orders_commands() {
         len >= 5 && len <= LONGEST_IDS && len % 5 == 0
     } else {
         len >= 1 && len <= LONGEST_ENTRY

@@ -2,7 +2,7 @@
 
 ghost use Rattle.std.specs.Prelude.{◌≡◌, ℕ, ◌≤◌, ◌<◌, length};
 ghost use Rattle.frame_codec.specs.Limits.{most_ids};
-ghost use Rattle.frame_codec.specs.Grammar.{admits, with_id, no_ids, id_of, id_at, ids_from, ids};
+ghost use Rattle.frame_codec.specs.Grammar.{admits, with_id, run_of, id_of, id_at, ids_from, ids, any_ids};
 ghost use Rattle.frame_codec.specs.Format.{Gives, read};
 
 use crate::fault::Wrong;
@@ -10,19 +10,21 @@ use crate::fields::block;
 use crate::limits::MOST_IDS;
 use ritas_base::{Id, NUMBER_LIMIT, Params};
 
-/// The identifiers of a list so far: the last one, how many have its origin, and how many there are.
+/// The identifiers of a list so far: how many may have one origin, the last one, how many have its origin, and how many there are.
 #[derive(Clone, Copy)]
 pub(crate) struct Run {
+    share: u8,
     last: Option<Id>,
     same: u8,
     total: u8,
 }
 
 impl Run {
-    fn new() -> Run
-        ensures { result ≡ no_ids }
+    fn new(share: u8) -> Run
+        ensures { result ≡ run_of share }
     {
         Run {
+            share,
             last: None,
             same: 0,
             total: 0,
@@ -37,7 +39,7 @@ impl Run {
             None => true,
             Some(last) => {
                 last.origin < id.origin
-                    || id.origin == last.origin && last.num < id.num && self.same < MOST_IDS / p.n()
+                    || id.origin == last.origin && last.num < id.num && self.same < self.share
             }
         };
         id.origin < p.n() && id.num < NUMBER_LIMIT && self.total < MOST_IDS && is_after
@@ -53,6 +55,7 @@ impl Run {
             Some(last) => id.origin == last.origin,
         };
         Run {
+            share: self.share,
             last: Some(id),
             same: if is_same { self.same + 1 } else { 1 },
             total: self.total + 1,
@@ -82,11 +85,16 @@ fn next_id<'a>(p: &Params, run: &Run, bytes: &'a [u8]) -> Result<(Id, &'a [u8]),
     Ok((id, rest))
 }
 
-/// So many identifiers.
-pub(crate) fn ids_from<'a>(p: &Params, count: usize, bytes: &'a [u8]) -> Result<&'a [u8], Wrong>
-    ensures { Gives (λ rest. rest.now) result (read (ids_from p.now.n count no_ids) bytes.now) }
+/// So many identifiers, of which so many may have one origin.
+pub(crate) fn ids_from<'a>(
+    p: &Params,
+    share: u8,
+    count: usize,
+    bytes: &'a [u8],
+) -> Result<&'a [u8], Wrong>
+    ensures { Gives (λ rest. rest.now) result (read (ids_from p.now.n count (run_of share)) bytes.now) }
 {
-    let mut run = Run::new();
+    let mut run = Run::new(share);
     let mut rest = bytes;
     for _ in 0..count {
         let (id, after) = next_id(p, &run, rest)?;
@@ -101,5 +109,18 @@ pub(crate) fn ids_from<'a>(p: &Params, count: usize, bytes: &'a [u8]) -> Result<
 pub(crate) fn ids<'a>(p: &Params, bytes: &'a [u8]) -> Result<&'a [u8], Wrong>
     ensures { Gives (λ rest. rest.now) result (read (ids p.now.n) bytes.now) }
 {
-    ids_from(p, bytes.len().saturating_sub(1) / 5 + 1, bytes)
+    ids_from(
+        p,
+        MOST_IDS / p.n(),
+        bytes.len().saturating_sub(1) / 5 + 1,
+        bytes,
+    )
+}
+
+/// All bytes, as identifiers of which there may be none, and of which all may have one origin.
+#[tactic(auto, unfolding(crate::specs::Grammar::any_ids))]
+pub(crate) fn any_ids<'a>(p: &Params, bytes: &'a [u8]) -> Result<&'a [u8], Wrong>
+    ensures { Gives (λ rest. rest.now) result (read (any_ids p.now.n) bytes.now) }
+{
+    ids_from(p, MOST_IDS, bytes.len().div_ceil(5), bytes)
 }

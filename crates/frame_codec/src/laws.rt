@@ -10,8 +10,8 @@ ghost use Rattle.ritas_base.specs.Members.{has_member};
 ghost use Rattle.ritas_base.specs.declared.id.Id.{Id};
 ghost use Rattle.frame_codec.specs.Limits.{most_ids, longest_entry};
 ghost use Rattle.frame_codec.specs.Format.{Is};
-ghost use Rattle.frame_codec.specs.Grammar.{ids, vector, vect, column, class2, class3, is_places};
-ghost use Rattle.frame_codec.specs.Ids.{AreIds};
+ghost use Rattle.frame_codec.specs.Grammar.{ids, any_ids, vector, vect, column, class2, class3, is_places};
+ghost use Rattle.frame_codec.specs.Ids.{AreIds, AreAnyIds};
 ghost use Rattle.ritas_base.specs.Bytes.{IsBytes};
 ghost use Rattle.frame_codec.specs.Values.{ids_bytes, ids_of, mask_of, places, at_place};
 ghost use Rattle.frame_codec.specs.Values.{IsVector, entries_in, vector_entries, entry_at_place, is_passed, vector_bytes};
@@ -26,6 +26,15 @@ pub fn list_law()
     ensures read { (n : ℕ) (value : List ℕ) → 1 ≤ n → n ≤ most_ids → IsBytes value → Is (ids n) value
         → (0 < length (ids_of value)) × (value ≡ ids_bytes (ids_of value)) × AreIds n (ids_of value) }
     ensures again { (xs : List Id) → AllByRecursion (λ x. x.num < 2 ^ 32) xs → ids_of (ids_bytes xs) ≡ xs }
+{}
+
+/// A value of class 3 of root service 7 spells identifiers, or none: at most `most_ids` (64), ascending, of replicas, and
+/// of numbers below `number_limit` (1,000,000), whatever their origins.
+///
+/// It does nothing: its contract is the law.
+pub fn any_list_law()
+    ensures written { (n : ℕ) (xs : List Id) → AreAnyIds n xs → Is (any_ids n) (ids_bytes xs) }
+    ensures read { (n : ℕ) (value : List ℕ) → IsBytes value → Is (any_ids n) value → (value ≡ ids_bytes (ids_of value)) × AreAnyIds n (ids_of value) }
 {}
 
 /// A value is a vector exactly where it is a mask and one entry of class 2 for each of its places. As many entries pass a

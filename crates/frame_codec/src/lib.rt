@@ -32,16 +32,18 @@
 //! | Class | Root service | Value |
 //! |---|---|---|
 //! | 1 | 1, 2 | 1 to `LONGEST_INPUT` (4,096) bytes |
-//! | 1 | 6 | `LEAST_REQUEST` (8) to `LONGEST_INPUT` (4,096) bytes, which begin with the client's and the request's number |
+//! | 1 | 6, 7 | `LEAST_REQUEST` (8) to `LONGEST_INPUT` (4,096) bytes, which begin with the client's and the request's number |
 //! | 2 | 5 | 1 to `LONGEST_ENTRY` (512) bytes |
-//! | 2 | 6 | identifier list |
+//! | 2 | 6, 7 | identifier list |
 //! | 3 | 4 | 1 to `LONGEST_INPUT` (4,096) bytes |
 //! | 3 | 5, 6 | vector |
-//! | 4 | 4, 5, 6 | VECT |
-//! | 5 | 3 to 6 | one byte: 0 or 1 in steps 1 and 2; 0, 1 or 2 in step 3 |
+//! | 3 | 7 | identifier list, which may have no identifier, and any number of its 64 with one origin |
+//! | 4 | 4 to 7 | VECT |
+//! | 5 | 3 to 7 | one byte: 0 or 1 in steps 1 and 2; 0, 1 or 2 in step 3 |
 //!
 //! - Identifier list: 1 to `MOST_IDS` (64) identifiers of 5 bytes, an origin (1 byte, below n) and a number (4 bytes, below
-//!   `NUMBER_LIMIT`, 1,000,000), strictly ascending, at most floor(64 / n) with one origin.
+//!   `NUMBER_LIMIT`, 1,000,000), strictly ascending, at most floor(64 / n) with one origin. Of bytes whose length is no
+//!   multiple of 5, the last identifier isn't whole.
 //! - Vector: a mask of at least n - f replicas, and for each of them, ascending, a length (2 bytes) and that many bytes,
 //!   which are a class 2 value of the root service.
 //! - VECT: no bytes for none, and otherwise a mask of at least n - 2f replicas and a class 3 value of the root service.
@@ -69,7 +71,9 @@ mod writing;
 pub use body_laws::{body_faults, input_is_value, right_input, same_value, spelled};
 pub use fault::BodyFault;
 pub use inputs::input_fault;
-pub use laws::{class2_is_short, column_law, list_law, place_law, vect_law, vector_law};
+pub use laws::{
+    any_list_law, class2_is_short, column_law, list_law, place_law, vect_law, vector_law,
+};
 pub use limits::{LONGEST_ENTRY, MOST_IDS, limits_are};
 pub use reading::read_body;
 pub use values::{column_entry, id_at, ids_have, vect_parts, vector_entry};

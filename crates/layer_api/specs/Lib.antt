@@ -16,6 +16,8 @@ pub mod OneValue
 pub mod OnceLaws
 pub mod EntryLaws
 pub mod Windows
+pub mod Purpose
+pub mod PurposeLaws
 pub mod Service
 pub mod DecisionLaws
 pub mod ServiceCalls
@@ -29,6 +31,8 @@ pub mod BinaryCalls
 pub mod VoteLaws
 pub mod Multi
 pub mod MultiCalls
+pub mod RoundLists
+pub mod RoundListLaws
 pub mod Vectors
 pub mod VectorCalls
 pub mod LogLengthLaws

@@ -1,19 +1,20 @@
 -- Root services with one instance of consensus: one input, no commands, no rounds and no identifier log. What is the same in all.
-use Rattle.std.specs.Prelude.{◌≡◌, ℕ, zero, suc, ◌+◌, ◌*◌, ◌<◌, ◌≤◌, ◌⊎◌, Bool, true, false, not, ◌==◌, ◌&&◌, nat_le, nat_lt, if◌then◌else◌, List, [], ◌∷◌, length, Some, None, refl}
-use Rattle.std.proofs.Common.{sym, ◌∙◌, ap, ap₂, subst, inl, inr, arith, ne_eqb}
-use Rattle.std.proofs.lemmas.Bool.{and_parts, eqb-true, leb-true, le-ltb, not-false, cond-false, both_ways}
+use Rattle.std.specs.Prelude.{◌≡◌, ℕ, zero, suc, ◌+◌, ◌*◌, ◌<◌, ◌≤◌, Bool, true, false, not, ◌==◌, ◌&&◌, nat_lt, if◌then◌else◌, List, [], ◌∷◌, length, Some, None}
+use Rattle.std.proofs.Common.{sym, ◌∙◌, ap, ap₂, subst, arith, ne_eqb}
+use Rattle.std.proofs.lemmas.Bool.{eqb-true, le-ltb, not-false, cond-false, both_ways}
 use Rattle.ritas_base.specs.declared.slot.Slot.{Slot}
 use Rattle.ritas_base.specs.declared.item.Say.{Say}
 use Rattle.ritas_base.specs.declared.id.Id.{Id}
 use Rattle.ritas_base.specs.Numbers.{IsSession}
-use Rattle.ritas_base.specs.Slots.{slot_fault, has_class, within}
+use Rattle.ritas_base.specs.Slots.{slot_fault, has_class}
 use Rattle.frame_codec.specs.Format.{Is}
 use Rattle.frame_codec.specs.Grammar.{value}
 use Rattle.ritas_base.specs.Limits.{number_limit}
 use Rattle.layer_api.specs.Windows.{command_window, rounds_kept}
 use Rattle.layer_api.specs.Words.{Word, Ask, Hear, asked, AreFresh}
 use Rattle.layer_api.specs.FreshLaws.{fresh_other}
-use Rattle.layer_api.specs.Service.{ServiceRules, Seat, Instance, Decision, Decided, AreProper, AreGoodSays, AreInputs, AreDistinct, AreHeard, said, has_instance, IsEnding, Meanings, Insides, is_past, WordLaws}
+use Rattle.layer_api.specs.PurposeLaws.{commands_of}
+use Rattle.layer_api.specs.Service.{ServiceRules, Seat, Instance, Decision, Decided, AreProper, AreGoodSays, AreInputs, AreDistinct, AreHeard, said, purpose_of, has_instance, IsEnding, Meanings, Insides, is_past, WordLaws}
 
 -- ---- the one input
 
@@ -39,35 +40,11 @@ given_some w e = go (asked w) e
     go zero e = absurd (let z : not true ≡ true = e in cc)
     go (suc n) e = omega arith
 
--- a number from 3 to 5
-pub three_to_five : (c : ℕ) → within 3 5 c ≡ true → (c ≡ 3) ⊎ (c ≡ 4) ⊎ (c ≡ 5)
-three_to_five c e = go c (leb-true 3 c p.0) (leb-true c 5 p.1)
-  where
-    p : (nat_le 3 c ≡ true) × (nat_le c 5 ≡ true)
-    p = and_parts (nat_le 3 c) (nat_le c 5) e
-
-    go : (c : ℕ) → 3 ≤ c → c ≤ 5 → (c ≡ 3) ⊎ (c ≡ 4) ⊎ (c ≡ 5)
-    go zero l m = absurd (omega (arith, l))
-    go (suc zero) l m = absurd (omega (arith, l))
-    go (suc (suc zero)) l m = absurd (omega (arith, l))
-    go (suc (suc (suc zero))) l m = inl refl
-    go (suc (suc (suc (suc zero)))) l m = inr (inl refl)
-    go (suc (suc (suc (suc (suc zero))))) l m = inr (inr refl)
-    go (suc (suc (suc (suc (suc (suc c)))))) l m = absurd (omega (arith, m))
-
-no_commands : (root : ℕ) → has_instance root ≡ true → has_class root 1 ≡ false
-unfolding has_class
-no_commands root one =
-    elim (three_to_five root one) [
-      | inl e ↦ ap (λ (k : ℕ). has_class k 1) e
-      | inr (inl e) ↦ ap (λ (k : ℕ). has_class k 1) e
-      | inr (inr e) ↦ ap (λ (k : ℕ). has_class k 1) e
-    ]
-
 -- ---- what such a service is
 
 pub record HasOneInstance (r : ServiceRules) : Type 0 where
-  pub serves : (root : ℕ) → r.serves root ≡ true → has_instance root ≡ true
+  pub purpose : has_instance r.purpose ≡ true
+  pub serves : (root : ℕ) → r.serves root ≡ true → purpose_of root ≡ Some r.purpose
   pub given : (seat : Seat) (w : List Word) → r.given seat w ≡ is_given w
   pub completed : (seat : Seat) (w : List Word) → r.completed seat w ≡ 0
   pub base : (seat : Seat) (w : List Word) (o : ℕ) → r.base seat w o ≡ 0
@@ -83,7 +60,7 @@ pub record IsInstanceSaid (seat : Seat) (y : Say) : Type 0 where
 
 -- the laws that are its instance's
 pub record InstanceLaws (r : ServiceRules) : Type 0 where
-  pub ending : (seat : Seat) (w : List Word) → r.serves seat.mode.root ≡ true → IsEnding seat.mode.root (r.outcome seat w)
+  pub ending : (seat : Seat) (w : List Word) → r.serves seat.mode.root ≡ true → IsEnding r.purpose (r.outcome seat w)
   pub says : (seat : Seat) (c : Word) (w : List Word) → AreProper r seat (c ∷ w) → AreFresh (IsInstanceSaid seat) (said r seat w) (r.says seat w c)
   pub opens_stays : (seat : Seat) (c : Word) (w : List Word) (s : Slot) → AreProper r seat (c ∷ w) → r.opens seat w s ≡ true → r.opens seat (c ∷ w) s ≡ true
   pub outcome_stays : (seat : Seat) (c : Word) (w : List Word) (d : Decision) → AreProper r seat (c ∷ w)
@@ -99,6 +76,10 @@ served r seat (Ask v) w proper = proper.0.served
 served r seat (Hear s v) w proper = proper.0.served
 
 module _ (r : ServiceRules) (one : HasOneInstance r) where
+  -- it has no commands
+  no_commands : (root : ℕ) → r.serves root ≡ true → has_class root 1 ≡ false
+  no_commands root serves = commands_of root r.purpose (one.serves root serves) ∙ ap not one.purpose
+
   -- it is asked once
   pub asked_once : (seat : Seat) (w : List Word) → AreProper r seat w → asked w ≤ 1
   asked_once seat [] proper = omega arith
@@ -108,11 +89,10 @@ module _ (r : ServiceRules) (one : HasOneInstance r) where
   module _ (laws : InstanceLaws r) where
     meanings : (seat : Seat) (w : List Word) → r.serves seat.mode.root ≡ true → Meanings r seat w
     meanings seat w serves =
-        let has = one.serves seat.mode.root serves in
-        let none = no_commands seat.mode.root has in
+        let none = no_commands seat.mode.root serves in
         record {
           next_number = one.next_number seat w ∙ sym (cond-false (has_class seat.mode.root 1) (asked w) 0 none);
-          given = one.given seat w ∙ sym (ap (λ (x : Bool). x && is_given w) has);
+          given = one.given seat w ∙ sym (ap (λ (x : Bool). x && is_given w) one.purpose);
           completed = λ low. one.completed seat w;
           base = λ o commands. absurd (both_ways _ none commands);
           base_none = λ o instance. one.base seat w o;
@@ -143,6 +123,7 @@ module _ (r : ServiceRules) (one : HasOneInstance r) where
 
     pub instance_word_laws : WordLaws r
     instance_word_laws = record {
+      purpose = one.serves;
       meanings = λ seat w session serves proper. meanings seat w serves;
       insides = λ seat w session serves proper. laws.insides seat w session serves proper;
       opens_stays = λ seat c w s proper opens past. laws.opens_stays seat c w s proper opens;
@@ -150,7 +131,7 @@ module _ (r : ServiceRules) (one : HasOneInstance r) where
       says_good = λ seat c w below proper. good_says seat _ _ below (laws.says seat c w proper);
       commands_said = λ seat c w proper. no_inputs seat w c _ _ (laws.says seat c w proper);
       inputs_said = λ seat v w has proper.
-          absurd (both_ways _ (no_commands seat.mode.root (one.serves seat.mode.root (served r seat (Ask v) w proper))) has);
+          absurd (both_ways _ (no_commands seat.mode.root (served r seat (Ask v) w proper)) has);
       completed_stays = λ seat c w proper. let a = one.completed seat w in let b = one.completed seat (c ∷ w) in omega (arith, a, b);
       base_stays = λ seat c w o proper. let a = one.base seat w o in let b = one.base seat (c ∷ w) o in omega (arith, a, b);
       done_nothing = λ seat. one.done seat [];

@@ -1,5 +1,5 @@
 -- What openness goes by: the class, number, attempt and round of a slot alone, and the kind of an item.
-use Rattle.std.specs.Prelude.{◌≡◌, ℕ, ◌≤◌, nat_le, Bool, true, ◌==◌, ◌&&◌, List, if◌then◌else◌}
+use Rattle.std.specs.Prelude.{◌≡◌, ℕ, ◌≤◌, nat_le, Bool, true, ◌==◌, List, if◌then◌else◌}
 use Rattle.std.proofs.Common.{◌∙◌, ap, ap₂}
 use Rattle.std.proofs.lemmas.Bool.{and_parts, and_from}
 use Rattle.ritas_base.specs.declared.slot.Slot.{Slot}

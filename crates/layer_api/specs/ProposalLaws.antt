@@ -6,13 +6,14 @@ use Rattle.std.proofs.lemmas.Bool.{cases_Bool, both_ways}
 use Rattle.ritas_base.specs.declared.slot.Slot.{Slot}
 use Rattle.ritas_base.specs.declared.item.Say.{Say}
 use Rattle.ritas_base.specs.declared.id.Id.{Id}
+use Rattle.ritas_base.specs.Numbers.{Numbers}
 use Rattle.ritas_base.specs.SlotOrder.{is_slot, same_slot, slot_itself}
 use Rattle.layer_api.specs.Words.{Word, AllMet, HasSay, is_said, said_value, all_said, AreFresh}
 use Rattle.layer_api.specs.Part.{part_of, part_words, says_in}
 use Rattle.layer_api.specs.FedLaws.{say_append, say_earlier, say_later}
 use Rattle.layer_api.specs.FreshLaws.{has_said, fresh_apart}
-use Rattle.layer_api.specs.Service.{Instance, Decision}
-use Rattle.layer_api.specs.Proposals.{Proposal, SomeProposed, IsProposed, IsAppended}
+use Rattle.layer_api.specs.Service.{Instance, Decision, Purpose, Carries, Decides, Orders}
+use Rattle.layer_api.specs.Proposals.{Proposal, SomeProposed, IsProposed, Listing, IsAppended}
 
 -- ---- what an instance inside says
 
@@ -104,18 +105,21 @@ module _ (is_correct : ℕ → Bool) (one other : Proposal) (is : (k : ℕ) (x :
       some_as : (x : Instance) (v : List ℕ) → SomeProposed is_correct one x v → SomeProposed is_correct other x v
       some_as x v s = (s.0, s.1, is s.0 x v s.1 s.2)
 
-  pub appended_as : (f : ℕ) (decided : Instance → Option Decision) (completed : ℕ) (x : Id)
-      → IsAppended f is_correct one decided completed x → IsAppended f is_correct other decided completed x
-  appended_as f decided completed x h = record {
+module _ (is_correct : ℕ → Bool) (one other : Listing) (is : (k a : ℕ) (v : List ℕ) → is_correct k ≡ true → one k a v → other k a v) where
+  pub appended_as : (purpose : Purpose) (p : Numbers) (decided : Instance → Option Decision) (completed : ℕ) (x : Id)
+      → IsAppended purpose p is_correct one decided completed x → IsAppended purpose p is_correct other decided completed x
+  appended_as Carries p decided completed x h = h
+  appended_as (Decides y) p decided completed x h = h
+  appended_as (Orders rounds) p decided completed x h = record {
     round = h.round;
-    vector = h.vector;
+    decision = h.decision;
     complete = h.complete;
     decides = h.decides;
-    backed = h.backed;
+    wanted = h.wanted;
     first = h.first;
     who = h.who;
     list = h.list;
     correct = h.correct;
-    asked = is h.who _ h.list h.correct h.asked;
+    asked = is h.who h.round h.list h.correct h.asked;
     stands = h.stands;
   }

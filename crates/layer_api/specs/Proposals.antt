@@ -1,20 +1,27 @@
 -- What correct replicas proposed to an instance of consensus, and that what it decides comes from that. What a replica proposes to
 -- an instance it says at its first slot there: the bit at the first step, the value at its INIT, and at the first slot of a vector
 -- consensus its proposal for the vector.
-use Rattle.std.specs.Prelude.{◌≡◌, ℕ, ◌+◌, ◌<◌, ◌≤◌, Bool, true, List, [], ◌∷◌, count_by, Option, Some, refl}
+use Rattle.std.specs.Prelude.{◌≡◌, ℕ, ◌<◌, Bool, true, false, List, [], ◌∷◌, Option, Some, refl}
 use Rattle.ritas_base.specs.declared.slot.Slot.{Slot}
 use Rattle.ritas_base.specs.declared.id.Id.{Id}
-use Rattle.frame_codec.specs.Values.{ids_of, vector_entries, entry_at_place}
+use Rattle.frame_codec.specs.Values.{ids_of, entry_at_place}
+use Rattle.ritas_base.specs.Numbers.{Numbers}
 use Rattle.layer_api.specs.Runs.{ReplicaStep, calls_of}
 use Rattle.layer_api.specs.Words.{Word, HasSay, bit_byte}
 use Rattle.layer_api.specs.Fed.{Play}
-use Rattle.layer_api.specs.Service.{Instance, OfBit, OfValue, OfVector, Decision, Bit, Value, has_id}
+use Rattle.layer_api.specs.Service.{Instance, OfBit, OfValue, OfVector, Decision, Bit, Value, Purpose, Carries, Decides, Orders, has_id}
+use Rattle.layer_api.specs.Purpose.{Rounds}
+pub use Rattle.layer_api.specs.Purpose.{backers}
+
+-- the slot at which replica k says what it proposes in a round: its list of identifiers, or its proposal for a vector
+abbrev pub list_slot : ℕ → ℕ → Slot
+list_slot a k = record { class = 2; a = a; attempt = 0; bround = 0; step = 0; origin = k }
 
 -- the slot at which replica k says what it proposes to an instance
 abbrev pub proposal_slot : Instance → ℕ → Slot
 proposal_slot (OfBit a attempt) k = record { class = 5; a = a; attempt = attempt; bround = 1; step = 1; origin = k }
 proposal_slot (OfValue a attempt) k = record { class = 3; a = a; attempt = attempt; bround = 0; step = 0; origin = k }
-proposal_slot (OfVector a) k = record { class = 2; a = a; attempt = 0; bround = 0; step = 0; origin = k }
+proposal_slot (OfVector a) k = list_slot a k
 
 -- a replica proposed a value to an instance
 abbrev pub Proposal : Type 1
@@ -39,27 +46,37 @@ pub record IsProposed (is_correct : ℕ → Bool) (proposed : Proposal) (decided
   pub entries : (a k : ℕ) (v e : List ℕ) → is_correct k ≡ true → decided (OfVector a) ≡ Some (Value v)
       → entry_at_place v k ≡ Some e → proposed k (OfVector a) e
 
--- in how many of these lists of identifiers one stands
-abbrev pub backers : List (List ℕ) → Id → ℕ
-backers lists x = count_by (λ list. has_id (ids_of list) x) lists
+-- a replica proposed a list of identifiers in a round
+abbrev pub Listing : Type 1
+Listing = ℕ → ℕ → List ℕ → Type 0
 
--- A round appends to the identifier log what stands in f + 1 or more entries of its vector, and isn't in the log yet. So an
--- identifier was appended by a round that is complete, where it stands in so many entries of this round's vector, and of no vector
--- of an earlier round; and some correct replica proposed in that round a list that has it.
-pub record IsAppended (f : ℕ) (is_correct : ℕ → Bool) (proposed : Proposal) (decided : Instance → Option Decision)
-    (completed : ℕ) (x : Id) : Type 0 where
+-- in a run it is what the replica said at the round's slot
+abbrev pub SaidList : Play → List (ReplicaStep Word) → Listing
+SaidList g steps k a v = HasSay (g.said k (calls_of k steps)) (record { slot = list_slot a k; value = v })
+
+-- A round appends to the identifier log what its decision wants and isn't in the log yet. So an identifier was appended by a round that
+-- is complete, whose decision wants it, as that of no earlier round does; and some correct replica proposed in that round a list that
+-- has it.
+pub record IsAppendedBy (rounds : Rounds) (p : Numbers) (is_correct : ℕ → Bool) (listed : Listing)
+    (decided : Instance → Option Decision) (completed : ℕ) (x : Id) : Type 0 where
   pub round : ℕ
-  pub vector : List ℕ
+  pub decision : Decision
   pub complete : round < completed
-  pub decides : decided (OfVector round) ≡ Some (Value vector)
-  pub backed : f + 1 ≤ backers (vector_entries vector) x
+  pub decides : decided (rounds.instance round) ≡ Some decision
+  pub wanted : rounds.wants p decision x ≡ true
   pub first : (a : ℕ) → a < round
-      → (v : List ℕ) × (decided (OfVector a) ≡ Some (Value v)) × (backers (vector_entries v) x ≤ f)
+      → (d : Decision) × (decided (rounds.instance a) ≡ Some d) × (rounds.wants p d x ≡ false)
   pub who : ℕ
   pub list : List ℕ
   pub correct : is_correct who ≡ true
-  pub asked : proposed who (OfVector round) list
+  pub asked : listed who round list
   pub stands : has_id (ids_of list) x ≡ true
+
+-- so it came into the log of a service that orders commands; no other has a log
+abbrev pub IsAppended : Purpose → Numbers → (ℕ → Bool) → Listing → (Instance → Option Decision) → ℕ → Id → Type 0
+IsAppended Carries p is_correct listed decided completed x = ⊥
+IsAppended (Decides y) p is_correct listed decided completed x = ⊥
+IsAppended (Orders rounds) p is_correct listed decided completed x = IsAppendedBy rounds p is_correct listed decided completed x
 
 -- ---- rows
 

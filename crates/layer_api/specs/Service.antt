@@ -1,15 +1,16 @@
 -- What a service means: its rules on lists of words, the newest first, and when a word may come.
-use Rattle.std.specs.Prelude.{◌≡◌, ℕ, ◌+◌, ◌*◌, ◌<◌, ◌≤◌, ◌⊎◌, nat_le, Bool, true, false, not, ◌==◌, ◌&&◌, ◌||◌, List, [], ◌∷◌, ◌++◌, length, Option, Some, None, is_some, ⊤, if◌then◌else◌}
+use Rattle.std.specs.Prelude.{◌≡◌, ℕ, ◌+◌, ◌*◌, ◌<◌, ◌≤◌, ◌⊎◌, Bool, true, false, not, ◌==◌, ◌&&◌, List, [], ◌∷◌, ◌++◌, length, Option, Some, None, is_some, ⊤, if◌then◌else◌}
 use Rattle.ritas_base.specs.declared.slot.Slot.{Slot}
 use Rattle.ritas_base.specs.declared.item.Say.{Say}
 use Rattle.ritas_base.specs.declared.id.Id.{Id}
 use Rattle.ritas_base.specs.declared.mode.Mode.{Mode}
 use Rattle.ritas_base.specs.Limits.{number_limit}
 use Rattle.ritas_base.specs.Numbers.{Numbers, IsSession}
-use Rattle.ritas_base.specs.Slots.{slot_fault, has_class, within, command_slot}
+use Rattle.ritas_base.specs.Slots.{slot_fault, has_class, command_slot}
 use Rattle.frame_codec.specs.Format.{Is}
 use Rattle.frame_codec.specs.Grammar.{value}
 use Rattle.frame_codec.specs.Inputs.{IsInput}
+pub use Rattle.layer_api.specs.Purpose.{Instance, OfBit, OfValue, OfVector, Decision, Bit, Nothing, Value, Spent, Purpose, Carries, Decides, Orders, purpose_of, own_instance, has_instance, orders_commands, has_id}
 use Rattle.layer_api.specs.Windows.{command_window, lies_behind, lies_beyond}
 use Rattle.layer_api.specs.Words.{Word, Ask, Hear, is_heard, asked, HasSay, AllMet, all_said, AreFresh}
 
@@ -19,20 +20,6 @@ pub record Seat : Type 0 where
   pub mode : Mode
   pub me : ℕ
   pub coin : Slot → Bool
-
--- an instance of consensus inside a service: of one bit or of one value, by its round and attempt, or of a vector, by
--- its round
-pub data Instance : Type 0 where
-  OfBit : ℕ → ℕ → Instance
-  OfValue : ℕ → ℕ → Instance
-  OfVector : ℕ → Instance
-
--- what an instance decided: a bit, no value, a value, or no vector in any attempt
-pub data Decision : Type 0 where
-  Bit : Bool → Decision
-  Nothing : Decision
-  Value : List ℕ → Decision
-  Spent : Decision
 
 -- what a multi-valued consensus decided: that no value is, or a value
 abbrev pub value_decision : Option (List ℕ) → Decision
@@ -83,6 +70,8 @@ vector_with a (Some k) (Some v) = Some (record { round = a; attempt = k; value =
 pub record ServiceRules : Type 0 where
   -- the root services that it serves
   pub serves : ℕ → Bool
+  -- what these are for
+  pub purpose : Purpose
   -- the broadcasts that a word newly starts
   pub says : Seat → List Word → Word → List Say
   -- whether items of a slot inside the window may be taken
@@ -174,11 +163,6 @@ AreInputs seat w c (y ∷ ys) = (y.slot.class ≡ 1 → IsInputSaid seat w c y) 
 abbrev pub IsPart : {X : Type 0} → List X → List X → Type 0
 IsPart xs ys = (more : List _) × (more ++ xs ≡ ys)
 
--- whether an identifier is in the list
-abbrev pub has_id : List Id → Id → Bool
-has_id [] x = false
-has_id (y ∷ ys) x = (y.origin == x.origin && y.num == x.num) || has_id ys x
-
 -- each identifier stands there once
 abbrev pub AreDistinct : List Id → Type 0
 AreDistinct [] = Unit {0}
@@ -200,54 +184,55 @@ pub record Appends (r : ServiceRules) (seat : Seat) (c : Word) (w : List Word) :
   pub whole : more ++ r.done seat w ≡ r.done seat (c ∷ w)
   pub recent : AreRecent r seat (c ∷ w) more
 
--- whether a command of an origin is finished: it is in the identifier log in root service 6, and else it was delivered
+-- whether a command of an origin is finished: where commands are put in one order it is in the identifier log, and else it was
+-- delivered
 abbrev pub is_finished : ServiceRules → Seat → List Word → ℕ → ℕ → Bool
 is_finished r seat w origin num =
-    if seat.mode.root == 6 then has_id (r.done seat w) (record { origin = origin; num = num }) else is_heard w (command_slot origin num)
+    if orders_commands r.purpose then has_id (r.done seat w) (record { origin = origin; num = num }) else is_heard w (command_slot origin num)
 
 -- b is the least number that isn't finished
 pub record IsBase (finished : ℕ → Bool) (b : ℕ) : Type 0 where
   pub missing : finished b ≡ false
   pub below : (k : ℕ) → k < b → finished k ≡ true
 
--- a root service that has one instance, and one input for it
-abbrev pub has_instance : ℕ → Bool
-has_instance root = within 3 5 root
+-- what may become of an instance
+abbrev pub IsEndingOf : Instance → Ending → Type 0
+IsEndingOf x Undecided = ⊤
+IsEndingOf (OfBit a attempt) Over = ⊤
+IsEndingOf (OfBit a attempt) (Decided (Bit b)) = ⊤
+IsEndingOf (OfValue a attempt) (Decided Nothing) = ⊤
+IsEndingOf (OfValue a attempt) (Decided (Value v)) = ⊤
+IsEndingOf (OfVector a) (Decided (Value v)) = ⊤
+IsEndingOf (OfVector a) (Decided Spent) = ⊤
+IsEndingOf x e = ⊥
 
--- that instance
-abbrev pub own_instance : ℕ → Option Instance
-own_instance root = if root == 3 then Some (OfBit 0 0) else if root == 4 then Some (OfValue 0 0) else if root == 5 then Some (OfVector 0) else None
+-- what may become of the one instance of a root service; one that orders commands has none, but that the instance of a round may
+-- be spent, where it is one that can
+abbrev pub IsEnding : Purpose → Ending → Type 0
+IsEnding Carries e = e ≡ Undecided
+IsEnding (Decides x) e = IsEndingOf x e
+IsEnding (Orders rounds) e = (e ≡ Undecided) ⊎ ((e ≡ Decided Spent) × ((a : ℕ) × IsEndingOf (rounds.instance a) (Decided Spent)))
 
--- what may become of the one instance of a root service; root service 6 has none, but that the vector consensus of its round
--- may be spent
-abbrev pub IsEnding : ℕ → Ending → Type 0
-IsEnding root Undecided = ⊤
-IsEnding root Over = root ≡ 3
-IsEnding root (Decided (Bit b)) = root ≡ 3
-IsEnding root (Decided Nothing) = root ≡ 4
-IsEnding root (Decided (Value v)) = (root ≡ 4) ⊎ (root ≡ 5)
-IsEnding root (Decided Spent) = (root ≡ 5) ⊎ (root ≡ 6)
-
--- what the getters mean, in each root service
+-- what the getters mean, by what the root service is for
 pub record Meanings (r : ServiceRules) (seat : Seat) (w : List Word) : Type 0 where
   -- the inputs taken, in the root services of commands, and 0 in the others
   pub next_number : r.next_number seat w ≡ (if has_class seat.mode.root 1 then asked w else 0)
   -- the one input is there
-  pub given : r.given seat w ≡ (has_instance seat.mode.root && not (asked w == 0))
-  -- rounds are those of root service 6
-  pub completed : nat_le seat.mode.root 5 ≡ true → r.completed seat w ≡ 0
+  pub given : r.given seat w ≡ (has_instance r.purpose && not (asked w == 0))
+  -- rounds are those of a service that orders commands
+  pub completed : orders_commands r.purpose ≡ false → r.completed seat w ≡ 0
   -- the least command number of an origin that isn't finished, and 0 where there are no commands
   pub base : (o : ℕ) → has_class seat.mode.root 1 ≡ true → IsBase (is_finished r seat w o) (r.base seat w o)
-  pub base_none : (o : ℕ) → has_instance seat.mode.root ≡ true → r.base seat w o ≡ 0
-  -- the identifier log is that of root service 6; it is never longer than there are numbers
-  pub done : nat_le seat.mode.root 5 ≡ true → r.done seat w ≡ []
+  pub base_none : (o : ℕ) → has_instance r.purpose ≡ true → r.base seat w o ≡ 0
+  -- so is the identifier log; it is never longer than there are numbers
+  pub done : orders_commands r.purpose ≡ false → r.done seat w ≡ []
   pub done_few : length (r.done seat w) ≤ 31 * number_limit
-  pub outcome : IsEnding seat.mode.root (r.outcome seat w)
+  pub outcome : IsEnding r.purpose (r.outcome seat w)
 
 -- what instances inside decided goes together with what is shown
 pub record Insides (r : ServiceRules) (seat : Seat) (w : List Word) : Type 0 where
   -- of the one instance of a root service it is the outcome
-  pub own : (x : Instance) → own_instance seat.mode.root ≡ Some x → r.decided seat w x ≡ ending_decision (r.outcome seat w)
+  pub own : (x : Instance) → own_instance r.purpose ≡ Some x → r.decided seat w x ≡ ending_decision (r.outcome seat w)
   -- the last vector is decided, by the attempt that is named, and none of a later round is
   pub last : (x : LastVector) → r.last seat w ≡ Some x → IsAttemptOf (r.decided seat w) x.round x.attempt x.value
   pub latest : (a : ℕ) (v : List ℕ) → r.decided seat w (OfVector a) ≡ Some (Value v) → (x : LastVector) × (r.last seat w ≡ Some x) × (a ≤ x.round)
@@ -256,6 +241,8 @@ pub record Insides (r : ServiceRules) (seat : Seat) (w : List Word) : Type 0 whe
 
 -- laws of a single value, over all words that met their conditions
 pub record WordLaws (r : ServiceRules) : Type 0 where
+  -- a root service is for what its number says
+  pub purpose : (root : ℕ) → r.serves root ≡ true → purpose_of root ≡ Some r.purpose
   -- each getter is what its root service says
   pub meanings : (seat : Seat) (w : List Word) → IsSession seat.numbers → r.serves seat.mode.root ≡ true → AreProper r seat w → Meanings r seat w
   -- what instances inside decided is what is shown

@@ -5,7 +5,7 @@ use Rattle.std.specs.Prelude.{◌≡◌, ℕ, ◌<◌, ◌≤◌, nat_le, Bool, 
 use Rattle.ritas_base.specs.declared.slot.Slot.{Slot}
 use Rattle.ritas_base.specs.declared.item.Say.{Say}
 use Rattle.ritas_base.specs.Numbers.{IsSession}
-use Rattle.ritas_base.specs.Slots.{within, has_count}
+use Rattle.ritas_base.specs.Slots.{within, has_tries, has_count}
 use Rattle.frame_codec.specs.Format.{Is}
 use Rattle.frame_codec.specs.Grammar.{class2, vector, value}
 use Rattle.frame_codec.specs.Values.{entry_at_place}
@@ -42,7 +42,7 @@ is_vector_slot at s = is_slot_in at.numbers.f at.a s
 
 -- the root service has vectors: the values of class 3 are vectors
 abbrev pub HasVectors : Scope → Type 0
-HasVectors at = (at.root == 4) ≡ false
+HasVectors at = has_tries at.root ≡ true
 
 -- a slot of this instance is heard once, while its items may be taken, and with a value of its grammar
 pub record MayVectorHear (r : VectorRules) (at : Desk) (w : List Word) (s : Slot) (v : List ℕ) : Type 0 where

@@ -6,6 +6,8 @@ use Rattle.std.proofs.Common.{sym, ◌∙◌, ap, subst, arith}
 use Rattle.std.proofs.lemmas.Bool.{ltb-true, lt-ltb}
 use Rattle.ritas_base.specs.declared.slot.Slot.{Slot}
 use Rattle.ritas_base.specs.declared.mode.Mode.{Mode}
+use Rattle.ritas_base.specs.declared.root_service.RootService.TheVariants.{Binary}
+use Rattle.ritas_base.specs.RootServices.{root_number}
 use Rattle.ritas_base.specs.Numbers.{Numbers}
 use Rattle.frame_codec.specs.Format.{Format, Is}
 use Rattle.frame_codec.specs.Grammar.{bit, value}
@@ -46,14 +48,14 @@ pub vote_value : (p : Numbers) (root : ℕ) (s : Slot) (v : List ℕ) (vote : �
 vote_value p root s v vote five whole small =
     subst (λ (f : Format). Is f v) (sym (step_value p root s five)) (subst (λ (x : List ℕ). Is (bit s.step) x) (sym whole) (vote_bit s.step vote small))
 
-bit_input : (p : Numbers) (root : ℕ) → root ≡ 3 → input_format p root ≡ bit 1
+bit_input : (p : Numbers) (root : ℕ) → root ≡ root_number Binary → input_format p root ≡ bit 1
 unfolding input_format
-bit_input p root three = rw three refl
+bit_input p root binary = rw binary refl
 
--- an input of root service 3 is a bit's byte
-pub input_bit : (p : Numbers) (mode : Mode) (v : List ℕ) → mode.root ≡ 3 → IsInput p mode v → v ≡ bit_byte (bytes_eq v (1 ∷ [])) ∷ []
-input_bit p mode v three is =
-    let vote = bit_vote 1 v (subst (λ (f : Format). Is f v) (bit_input p mode.root three) is) in
+-- an input of binary consensus is a bit's byte
+pub input_bit : (p : Numbers) (mode : Mode) (v : List ℕ) → mode.root ≡ root_number Binary → IsInput p mode v → v ≡ bit_byte (bytes_eq v (1 ∷ [])) ∷ []
+input_bit p mode v binary is =
+    let vote = bit_vote 1 v (subst (λ (f : Format). Is f v) (bit_input p mode.root binary) is) in
     subst (λ (x : List ℕ). x ≡ bit_byte (bytes_eq x (1 ∷ [])) ∷ []) (sym vote.whole) (go vote.vote vote.small)
   where
     go : (x : ℕ) → x < 2 → x ∷ [] ≡ bit_byte (bytes_eq (x ∷ []) (1 ∷ [])) ∷ []
