@@ -13,7 +13,7 @@ use Rattle.ritas_base.specs.declared.item.To.{To}
 use Rattle.ritas_base.specs.declared.item.To.TheVariants.{All, One}
 use Rattle.ritas_base.specs.Slots.{command_slot}
 use Rattle.ritas_base.specs.Tags.{Tags}
-use Rattle.layer_api.specs.Service.{ServiceRules, Undecided}
+use Rattle.layer_api.specs.Service.{ServiceRules, Carries, Undecided}
 use Rattle.reliable_bcast.specs.Bracha.{bracha}
 use Rattle.ritas_core.specs.declared.fault.CoreFault.TheVariants.{Past, Ahead, HeldFull}
 use Rattle.ritas_core.specs.declared.verdict.Verdict.{Verdict}
@@ -37,6 +37,7 @@ no_tags = record { digest = λ m. []; entry = λ s echoer verifier d. [] }
 abbrev from_hundred : Bool → ServiceRules
 from_hundred opened = record {
   serves = λ root. true;
+  purpose = Carries;
   says = λ seat w c. [];
   opens = λ seat w s. opened;
   completed = λ seat w. 100;
