@@ -3,7 +3,7 @@ use Rattle.std.specs.Prelude.{◌≡◌, ℕ, ◌<◌, true, List, slice_index}
 use Rattle.layer_api.specs.Service.{Seat}
 use Rattle.layer_api.specs.Words.{Word, is_heard, asked}
 use Rattle.ritas_base.specs.Slots.{command_slot}
-use Rattle.atomic_bcast.specs.Early.{is_known, IsTight}
+use Rattle.ordered_rounds.specs.Early.{is_known, IsTight}
 use Rattle.atomic_bcast.specs.declared.cmd_root.CmdRoot.{CmdRoot}
 
 pub record CommandsStand (s : CmdRoot) (seat : Seat) (w : List Word) : Type 0 where

@@ -7,7 +7,7 @@ use Rattle.layer_api.specs.Words.{Word}
 use Rattle.layer_api.specs.ServiceCalls.{ServiceShown, Shows, ShowsNear}
 use Rattle.atomic_bcast.specs.Commands.{is_heard_from, base_of, commands}
 use Rattle.atomic_bcast.specs.Laws.Commands.{base_from}
-use Rattle.atomic_bcast.specs.Early.{has_early}
+use Rattle.ordered_rounds.specs.Early.{has_early}
 use Rattle.atomic_bcast.specs.CmdRoot.{CommandsStand}
 use Rattle.atomic_bcast.specs.declared.cmd_root.CmdRoot.{CmdRoot}
 

@@ -1,10 +1,10 @@
 -- The service of commands alone: each input is broadcast at the origin's next number, and nothing is decided.
 use Rattle.std.specs.Prelude.{ℕ, ◌+◌, Bool, false, not, ◌==◌, ◌||◌, List, [], ◌∷◌, length, unwrap_or, None}
 use Rattle.std.specs.List.{find, range_with_len}
-use Rattle.ritas_base.specs.declared.item.Say.{Say}
-use Rattle.layer_api.specs.Service.{ServiceRules, Seat, Undecided}
-use Rattle.layer_api.specs.Words.{Word, Ask, Hear, is_heard, asked}
+use Rattle.layer_api.specs.Service.{ServiceRules, Seat, Carries, Undecided}
+use Rattle.layer_api.specs.Words.{Word, is_heard, asked}
 use Rattle.ritas_base.specs.Slots.{command_slot}
+use Rattle.ordered_rounds.specs.Rounds.{says_input}
 
 -- whether the origin's command of this number was delivered
 abbrev pub is_heard_from : List Word → ℕ → ℕ → Bool
@@ -18,14 +18,10 @@ is_missing w origin num = not (is_heard_from w origin num)
 unfoldable pub base_of : List Word → ℕ → ℕ
 base_of w origin = unwrap_or (find (is_missing w origin) (range_with_len 0 (length w + 1))) (length w)
 
--- an input is said at the replica's next number
-abbrev pub says_input : Seat → List Word → Word → List Say
-says_input seat w (Ask v) = record { slot = command_slot seat.me (asked w); value = v } ∷ []
-says_input seat w (Hear s v) = []
-
 abbrev pub commands : ServiceRules
 commands = record {
   serves = λ root. root == 1 || root == 2;
+  purpose = Carries;
   says = says_input;
   opens = λ seat w s. s.class == 1;
   completed = λ seat w. 0;

@@ -1,11 +1,10 @@
 //! The service of commands alone: each input is broadcast under the next number, and nothing is put in order.
 
 ghost use Rattle.std.specs.Prelude.{◌≡◌, ℕ, ◌==◌, ◌&&◌, ◌||◌, not, OnOk, OnErr};
-ghost use Rattle.atomic_bcast.specs.Early.{has_early, Advances, Notes};
+ghost use Rattle.ordered_rounds.specs.Early.{Notes};
 
-use crate::limits::MOST_REPLICAS;
-use crate::saying::say_command;
 use layer_api::{Outcome, Service};
+use ordered_rounds::{MOST_REPLICAS, advance, put_early, say_command};
 use ritas_base::{Coin, Id, Mem, NUMBER_LIMIT, Params, Say, Slot};
 use std::alloc::Global;
 use std::collections::BTreeSet;
@@ -32,33 +31,6 @@ pub struct CmdRoot {
     live: bool,
 }
 
-// Takes a command out, and says whether it was there.
-fn take_early(early: &mut BTreeSet<Id>, origin: u8, num: u32) -> bool
-    ensures there { result ≡ has_early early.old origin num }
-    ensures rest { (o k : ℕ) → has_early early.new o k ≡ (not (o == origin && k == num) && has_early early.old o k) }
-{
-    early.remove(&Id { origin, num })
-}
-
-// Puts a command in.
-pub(crate) fn put_early(early: &mut BTreeSet<Id>, origin: u8, num: u32) -> Result<(), Mem>
-    ensures put { OnOk result
-        ((o k : ℕ) → has_early early.new o k ≡ ((o == origin && k == num) || has_early early.old o k)) }
-{
-    early.insert(Id { origin, num })?;
-    Ok(())
-}
-
-// Takes out the commands of an origin from this base on, up to the first that isn't there. Its number is the new base.
-pub(crate) fn advance(early: &mut BTreeSet<Id>, origin: u8, mut base: u32) -> u32
-    ensures { Advances early.old early.new origin base result }
-{
-    while base < NUMBER_LIMIT && take_early(early, origin, base) {
-        base += 1;
-    }
-    base
-}
-
 impl CmdRoot {
     // Notes that a command was delivered.
     fn note(&mut self, origin: u8, num: u32) -> Result<(), Mem>
@@ -82,8 +54,7 @@ impl CmdRoot {
 
 impl Service for CmdRoot {
     ghost use Rattle.atomic_bcast.specs.Commands.{commands};
-    ghost use Rattle.atomic_bcast.specs.Laws.Commands.{command_laws, command_log};
-    ghost use Rattle.atomic_bcast.specs.Laws.Opening.{commands_open_down};
+    ghost use Rattle.atomic_bcast.specs.Laws.Commands.{command_laws, command_log, commands_open_down};
     ghost use Rattle.atomic_bcast.specs.CmdRoot.{CommandsStand};
     ghost use Rattle.atomic_bcast.specs.CmdRootGetters.{commands_shown, shows_rules};
 

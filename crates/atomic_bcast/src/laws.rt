@@ -9,9 +9,9 @@ ghost use Rattle.layer_api.specs.Windows.{command_window};
 ghost use Rattle.layer_api.specs.Vectors.{VectorRules, VectorLaws, OneVector};
 ghost use Rattle.ritas_base.specs.Slots.{command_slot};
 ghost use Rattle.atomic_bcast.specs.Commands.{base_of, commands};
-ghost use Rattle.atomic_bcast.specs.Rounds.{atomic};
-ghost use Rattle.atomic_bcast.specs.VectorsAgree.{RoundVectorsAgree};
-ghost use Rattle.atomic_bcast.specs.Appended.{AppendsProposed};
+ghost use Rattle.atomic_bcast.specs.VectorRounds.{atomic, by_vectors};
+ghost use Rattle.ordered_rounds.specs.RoundsAgree.{RoundDecisionsAgree};
+ghost use Rattle.ordered_rounds.specs.Appended.{AppendsProposed};
 
 /// The law of what is said: to an input the service says that input, alone, at the command slot of the next number.
 ///
@@ -42,8 +42,8 @@ pub fn base_is_least()
 pub fn one_log()
     ensures log { (v : VectorRules) → VectorLaws v → OneVector v → OneLog (atomic v) }
     ensures once { (v : VectorRules) (seat : Seat) (w : List Word) → AreDistinct ((atomic v).done seat w) }
-    ensures vectors { (v : VectorRules) → VectorLaws v → OneVector v → RoundVectorsAgree v }
-    ensures proposed { (v : VectorRules) → VectorLaws v → OneVector v → AppendsProposed v }
+    ensures vectors { (v : VectorRules) → VectorLaws v → OneVector v → RoundDecisionsAgree (by_vectors v) }
+    ensures proposed { (v : VectorRules) → VectorLaws v → OneVector v → AppendsProposed (by_vectors v) }
 {}
 
 /// The laws of a single value of atomic broadcast: what is said is new, in the grammar, and at command slots the

@@ -1,6 +1,6 @@
 -- Multi-valued consensus as a root service: one instance, of round 0 and attempt 0, whose input is a value of class 3.
 use Rattle.std.specs.Prelude.{ℕ, ◌==◌, ◌&&◌, List, [], Option, Some, None}
-use Rattle.layer_api.specs.Service.{ServiceRules, Seat, Instance, OfBit, OfValue, OfVector, Decision, value_decision, Ending, Undecided, Decided}
+use Rattle.layer_api.specs.Service.{ServiceRules, Seat, Decides, Instance, OfBit, OfValue, OfVector, Decision, value_decision, Ending, Undecided, Decided}
 use Rattle.layer_api.specs.Words.{Word}
 use Rattle.layer_api.specs.OneInstance.{is_given}
 use Rattle.layer_api.specs.Multi.{Desk, MultiRules, is_multi_slot}
@@ -21,6 +21,7 @@ multi_decided_in m seat w (OfVector a) = None
 abbrev pub multi_root : MultiRules → ServiceRules
 multi_root m = record {
   serves = λ root. root == 4;
+  purpose = Decides (OfValue 0 0);
   says = λ seat w c. m.says (multi_root_desk seat) w c;
   opens = λ seat w s. is_multi_slot (multi_root_desk seat).scope s && m.opens (multi_root_desk seat) w s;
   completed = λ seat w. 0;

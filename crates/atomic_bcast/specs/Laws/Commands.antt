@@ -13,50 +13,15 @@ use Rattle.ritas_base.specs.SlotOrder.{is_slot, same_slot}
 use Rattle.frame_codec.specs.Format.{Is}
 use Rattle.frame_codec.specs.Grammar.{value}
 use Rattle.frame_codec.specs.Inputs.{IsInput, input_format}
-use Rattle.layer_api.specs.Service.{Seat, said, is_past, is_ahead, MayHear, AreProper, AreNew, AreGoodSays, WordLaws, AreInputs, IsBase, is_finished, has_instance, Meanings}
+use Rattle.layer_api.specs.Service.{Seat, Carries, purpose_of, said, is_past, is_ahead, MayHear, AreProper, AreNew, AreGoodSays, WordLaws, AreInputs, IsBase, Meanings}
 use Rattle.layer_api.specs.Words.{Word, Ask, Hear, is_heard, asked, is_said}
 use Rattle.layer_api.specs.OneLog.{OneLog}
-use Rattle.atomic_bcast.specs.Commands.{is_heard_from, is_missing, base_of, says_input, commands}
+use Rattle.layer_api.specs.OpeningLaws.{OpensDown}
+use Rattle.ordered_rounds.specs.Rounds.{says_input}
+use Rattle.ordered_rounds.specs.Laws.Searching.{IsLeastFrom, NonePasses, find_is, heard_stays}
+use Rattle.atomic_bcast.specs.Commands.{is_heard_from, is_missing, base_of, commands}
 
 -- ---- the least number that was not heard
-
--- b is the least number from a on that passes
-pub record IsLeastFrom (p : ℕ → Bool) (a b : ℕ) : Type 0 where
-  pub passes : p b ≡ true
-  pub «from» : a ≤ b
-  pub none_before : (k : ℕ) → a ≤ k → k < b → p k ≡ false
-
--- no number of these passes
-abbrev pub NonePasses : (ℕ → Bool) → ℕ → ℕ → Type 0
-NonePasses p a n = (k : ℕ) → a ≤ k → k < a + n → p k ≡ false
-
-at_or_after : (p : ℕ → Bool) (a k : ℕ) → p a ≡ false → a ≤ k → (a + 1 ≤ k → p k ≡ false) → p k ≡ false
-at_or_after p a k fails here later =
-    elim (cases_order a k) [
-      | inl same ↦ ap p (sym same) ∙ fails
-      | inr (inl less) ↦ later (omega arith)
-      | inr (inr more) ↦ absurd (omega arith)
-    ]
-
-find_later : (p : ℕ → Bool) (a n : ℕ) (o : Option ℕ) → p a ≡ false → MatchOption o (NonePasses p (a + 1) n) (IsLeastFrom p (a + 1))
-    → MatchOption o (NonePasses p a (suc n)) (IsLeastFrom p a)
-find_later p a n None fails later = λ k here within. at_or_after p a k fails here (λ after. later k after (omega arith))
-find_later p a n (Some b) fails later = record {
-  passes = later.passes;
-  «from» = let g : a + 1 ≤ b = later.«from» in omega arith;
-  none_before = λ k here before. at_or_after p a k fails here (λ after. later.none_before k after before);
-}
-
-pub find_is : (p : ℕ → Bool) (a n : ℕ) → MatchOption (find p (range_with_len a n)) (NonePasses p a n) (IsLeastFrom p a)
-find_is p a zero = λ k here within. absurd (omega arith)
-find_is p a (suc n) =
-    elim (cases_Bool (p a)) [
-      | inl passes ↦
-          rw (cond-true (p a) (Some a) (find p (range_with_len (a + 1) n)) passes)
-          (record { passes = passes; «from» = omega arith; none_before = λ k here before. absurd (omega arith) })
-      | inr fails ↦
-          rw (cond-false (p a) (Some a) (find p (range_with_len (a + 1) n)) fails) (find_later p a n _ fails (find_is p (a + 1) n))
-    ]
 
 -- the numbers of the slots that were heard
 abbrev heard_numbers : List Word → List ℕ
@@ -111,11 +76,6 @@ base_from w o b is =
     ]
 
 -- ---- the base never goes back
-
--- what was heard stays heard
-pub heard_stays : (c : Word) (w : List Word) (s : Slot) → is_heard w s ≡ true → is_heard (c ∷ w) s ≡ true
-heard_stays (Ask v) w s h = h
-heard_stays (Hear q v) w s h = or_right (is_slot q s) (is_heard w s) h
 
 pub base_stays : (seat : Seat) (c : Word) (w : List Word) (o : ℕ) → base_of w o ≤ base_of (c ∷ w) o
 base_stays seat c w o =
@@ -195,11 +155,8 @@ has_commands : (root : ℕ) → commands.serves root ≡ true → has_class root
 unfolding has_class
 has_commands root serves = let P : ℕ → Type 0 = λ r. has_class r 1 ≡ true in in_both P refl refl root serves
 
-no_instance : (root : ℕ) → commands.serves root ≡ true → has_instance root ≡ false
-no_instance root serves = let P : ℕ → Type 0 = λ r. has_instance r ≡ false in in_both P refl refl root serves
-
-no_log : (root : ℕ) → commands.serves root ≡ true → (root == 6) ≡ false
-no_log root serves = let P : ℕ → Type 0 = λ r. (r == 6) ≡ false in in_both P refl refl root serves
+carries : (root : ℕ) → commands.serves root ≡ true → purpose_of root ≡ Some Carries
+carries root serves = let P : ℕ → Type 0 = λ r. purpose_of r ≡ Some Carries in in_both P refl refl root serves
 
 -- ---- what is said is in the grammar
 
@@ -236,30 +193,24 @@ commands_said seat (Hear s v) w = tt
 
 -- ---- what the getters mean
 
-finished_is : (seat : Seat) (w : List Word) (o k : ℕ) → commands.serves seat.mode.root ≡ true
-    → is_finished commands seat w o k ≡ is_heard_from w o k
-finished_is seat w o k serves = cond-false (seat.mode.root == 6) false (is_heard_from w o k) (no_log seat.mode.root serves)
-
 pub meanings : (seat : Seat) (w : List Word) → commands.serves seat.mode.root ≡ true → Meanings commands seat w
 meanings seat w serves = record {
   next_number = sym (cond-true (has_class seat.mode.root 1) (asked w) 0 (has_commands seat.mode.root serves));
-  given = sym (ap (λ (b : Bool). b && not (asked w == 0)) (no_instance seat.mode.root serves));
+  given = refl;
   completed = λ low. refl;
-  base = λ o has. record {
-    missing = finished_is seat w o (base_of w o) serves ∙ (base_is w o).missing;
-    below = λ k before. finished_is seat w o k serves ∙ (base_is w o).below k before;
-  };
-  base_none = λ o one. absurd (both_ways _ (no_instance seat.mode.root serves) one);
+  base = λ o has. record { missing = (base_is w o).missing; below = (base_is w o).below };
+  base_none = λ o one. absurd cc;
   done = λ low. refl;
   done_few = omega arith;
-  outcome = tt;
+  outcome = refl;
 }
 
 pub command_laws : WordLaws commands
 command_laws = record {
+  purpose = carries;
   meanings = λ seat w session serves proper. meanings seat w serves;
   insides = λ seat w session serves proper. record {
-    own = λ x q. refl;
+    own = λ x q. absurd cc;
     last = λ x q. absurd cc;
     latest = λ a v q. absurd cc;
     bit = λ a k o q. absurd cc;
@@ -289,12 +240,16 @@ command_log = record {
   last_vectors = λ p mode is_correct coins steps run i j x y ci cj a b. absurd cc;
   decisions = λ p mode is_correct coins steps run i j x d e ci cj a b. absurd cc;
   bits = λ p mode is_correct coins steps run i b ci a. absurd cc;
-  proposals = λ p mode is_correct coins steps run four i v ci a. absurd cc;
+  proposals = λ p mode is_correct coins steps run a attempt purpose i v ci q. absurd cc;
   proposed = λ p mode is_correct coins steps run i ci. record {
     bits = λ a attempt b q. absurd cc;
     values = λ a attempt v q. absurd cc;
     entries = λ a k v e ck q r. absurd cc;
   };
-  entries = λ p mode is_correct coins steps run five i k v e ci ck a r. absurd cc;
+  entries = λ p mode is_correct coins steps run a purpose i k v e ci ck q r. absurd cc;
   appended = λ p mode is_correct coins steps run i x ci there. absurd cc;
 }
+
+-- the slots that open go by their class alone
+pub commands_open_down : (seat : Seat) (w : List Word) → OpensDown (commands.opens seat w)
+commands_open_down seat w s t near e = ap (λ (c : ℕ). c == 1) near.class ∙ e

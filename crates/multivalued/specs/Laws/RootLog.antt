@@ -9,7 +9,7 @@ use Rattle.frame_codec.specs.Format.{Format, Is}
 use Rattle.frame_codec.specs.Grammar.{class3, value}
 use Rattle.frame_codec.specs.Inputs.{input_format}
 use Rattle.layer_api.specs.Runs.{ReplicaStep, calls_of, Has}
-use Rattle.layer_api.specs.Service.{Seat, MayAsk, MayHear, MayWord, Instance, OfBit, OfValue, OfVector, Decision, Value, Bit, Decided, Spent, value_decision}
+use Rattle.layer_api.specs.Service.{Seat, Decides, MayAsk, MayHear, MayWord, Instance, OfBit, OfValue, OfVector, Decision, Value, Bit, Decided, Spent, value_decision}
 use Rattle.layer_api.specs.Words.{Word, Ask, Hear}
 use Rattle.layer_api.specs.OneLog.{Session, seat_at, service_play, IsRunOf, OneLog}
 use Rattle.layer_api.specs.Fed.{IsFedRun}
@@ -107,16 +107,20 @@ no_spent : (o : Option (List ℕ)) → Spent ≡ value_decision o → ⊥
 no_spent None e = cc
 no_spent (Some v) e = cc
 
+-- the one instance is one of a value
+no_vector : (a : ℕ) → Decides (OfValue 0 0) ≡ Decides (OfVector a) → ⊥
+no_vector a e = cc
+
 pub root_log : (m : MultiRules) → OneDecision m → OneLog (multi_root m)
 root_log m one = record {
   logs = λ p mode is_correct coins steps run i j ci cj. inl ([], refl);
   outcomes = λ p mode is_correct coins steps run. outcomes m one p mode is_correct coins steps run;
   decisions = λ p mode is_correct coins steps run. decisions m one p mode is_correct coins steps run;
   bits = λ p mode is_correct coins steps run i b ci q. absurd (let x = ending_is _ (Bit b) q in no_bit x.0 b x.2);
-  proposals = λ p mode is_correct coins steps run four. proposals m one p mode is_correct coins steps run;
+  proposals = λ p mode is_correct coins steps run a attempt own. proposals m one p mode is_correct coins steps run;
   unspent = λ p mode is_correct coins steps run i ci q. absurd (let x = ending_is _ Spent q in no_spent x.0 x.2);
   last_vectors = λ p mode is_correct coins steps run i j x y ci cj q. absurd cc;
   proposed = λ p mode is_correct coins steps run i ci. decisions_proposed m one p mode is_correct coins steps run i ci;
-  entries = λ p mode is_correct coins steps run five i k v e ci ck q r. absurd (let e = eqb-true mode.root 4 run.serves in omega (arith, e, five));
+  entries = λ p mode is_correct coins steps run a other i k v e ci ck q r. absurd (no_vector a other);
   appended = λ p mode is_correct coins steps run i x ci there. absurd cc;
 }

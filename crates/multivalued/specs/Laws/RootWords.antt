@@ -1,7 +1,7 @@
 -- The laws of a single value of multi-valued consensus as a root service, from those of its box.
-use Rattle.std.specs.Prelude.{◌≡◌, ℕ, ◌<◌, true, false, ◌==◌, ◌&&◌, if◌then◌else◌, List, [], ◌∷◌, Option, Some, None, option_map, refl, ◌⊎◌}
-use Rattle.std.proofs.Common.{sym, ◌∙◌, ap, subst, inl, inr}
-use Rattle.std.proofs.lemmas.Bool.{and_parts, and_from, lt-ltb, eqb-true}
+use Rattle.std.specs.Prelude.{◌≡◌, ℕ, zero, suc, ◌<◌, ◌≤◌, nat_le, true, false, ◌==◌, ◌&&◌, if◌then◌else◌, List, [], ◌∷◌, Option, Some, None, option_map, refl, ◌⊎◌}
+use Rattle.std.proofs.Common.{sym, ◌∙◌, ap, subst, inl, inr, arith}
+use Rattle.std.proofs.lemmas.Bool.{and_parts, and_from, leb-true, lt-ltb, eqb-true}
 use Rattle.ritas_base.specs.declared.slot.Slot.{Slot}
 use Rattle.ritas_base.specs.declared.item.Say.{Say}
 use Rattle.ritas_base.specs.declared.mode.Mode.{Mode}
@@ -10,15 +10,28 @@ use Rattle.ritas_base.specs.Slots.{slot_fault, within, has_class, has_number, ha
 use Rattle.ritas_base.specs.SlotLaws.{slot_is_right}
 use Rattle.frame_codec.specs.Format.{Is}
 use Rattle.frame_codec.specs.Grammar.{value}
-use Rattle.layer_api.specs.Service.{ServiceRules, Seat, Instance, OfBit, OfValue, OfVector, Decision, Decided, value_decision, ending_decision, own_instance, AreProper, has_instance, IsEnding, Insides, WordLaws}
+use Rattle.layer_api.specs.Service.{ServiceRules, Seat, Instance, OfBit, OfValue, OfVector, Decision, Decided, value_decision, ending_decision, own_instance, Decides, purpose_of, AreProper, IsEnding, Insides, WordLaws}
 use Rattle.layer_api.specs.FreshLaws.{fresh_other}
-use Rattle.layer_api.specs.OneInstance.{three_to_five, HasOneInstance, IsInstanceSaid, served, instance_word_laws}
+use Rattle.layer_api.specs.OneInstance.{HasOneInstance, IsInstanceSaid, served, instance_word_laws}
 use Rattle.layer_api.specs.Words.{Word, Ask, Hear}
 use Rattle.layer_api.specs.Multi.{MultiRules, is_multi_slot, AreMulti, IsMultiSaid, MultiLaws}
 use Rattle.multivalued.specs.Root.{multi_root_desk, multi_ending, multi_decided_in, multi_root}
 use Rattle.multivalued.specs.Laws.RootLog.{may_word}
 
 -- ---- slots of the root service
+
+-- a number from 3 to 5
+three_to_five : (c : ℕ) → within 3 5 c ≡ true → (c ≡ 3) ⊎ (c ≡ 4) ⊎ (c ≡ 5)
+three_to_five c e = let p = and_parts (nat_le 3 c) (nat_le c 5) e in go c (leb-true 3 c p.0) (leb-true c 5 p.1)
+  where
+    go : (c : ℕ) → 3 ≤ c → c ≤ 5 → (c ≡ 3) ⊎ (c ≡ 4) ⊎ (c ≡ 5)
+    go zero l m = absurd (omega (arith, l))
+    go (suc zero) l m = absurd (omega (arith, l))
+    go (suc (suc zero)) l m = absurd (omega (arith, l))
+    go (suc (suc (suc zero))) l m = inl refl
+    go (suc (suc (suc (suc zero)))) l m = inr (inl refl)
+    go (suc (suc (suc (suc (suc zero))))) l m = inr (inr refl)
+    go (suc (suc (suc (suc (suc (suc c)))))) l m = absurd (omega (arith, m))
 
 class_is : (c : ℕ) → (c ≡ 3) ⊎ (c ≡ 4) ⊎ (c ≡ 5) → (within 1 5 c ≡ true) × (has_class 4 c ≡ true)
 unfolding has_class
@@ -42,10 +55,10 @@ no_class_one c e =
     elim (three_to_five c e) [ inl q ↦ ap (λ (k : ℕ). k == 1) q | inr (inl q) ↦ ap (λ (k : ℕ). k == 1) q | inr (inr q) ↦ ap (λ (k : ℕ). k == 1) q ]
 
 -- an instance of one value ends by a value, or by none
-is_ending : (root : ℕ) (o : Option (Option (List ℕ))) → root ≡ 4 → IsEnding root (multi_ending o)
-is_ending root None four = tt
-is_ending root (Some None) four = four
-is_ending root (Some (Some v)) four = inl four
+is_ending : (o : Option (Option (List ℕ))) → IsEnding (Decides (OfValue 0 0)) (multi_ending o)
+is_ending None = tt
+is_ending (Some None) = tt
+is_ending (Some (Some v)) = tt
 
 -- ---- words
 
@@ -80,10 +93,10 @@ module _ (m : MultiRules) where
     decided_stays seat c w (OfValue a k) d proper e = laws.inside_stays (multi_root_desk seat) c w (OfValue a k) d (are_multi seat (c ∷ w) proper) e
     decided_stays seat c w (OfVector a) d proper e = absurd cc
 
-    own_decided : (seat : Seat) (w : List Word) (x : Instance) → seat.mode.root ≡ 4 → own_instance seat.mode.root ≡ Some x
+    own_decided : (seat : Seat) (w : List Word) (x : Instance) → own_instance r.purpose ≡ Some x
         → multi_decided_in m seat w x ≡ ending_decision (multi_ending (m.decision (multi_root_desk seat) w))
-    own_decided seat w x four q =
-        let e : OfValue 0 0 ≡ x = let p = ap own_instance (sym four) ∙ q in cc in
+    own_decided seat w x q =
+        let e : OfValue 0 0 ≡ x = cc in
         subst (λ (y : Instance). multi_decided_in m seat w y ≡ ending_decision (multi_ending (m.decision (multi_root_desk seat) w))) e
         (laws.inside_own (multi_root_desk seat) w ∙ go (m.decision (multi_root_desk seat) w))
       where
@@ -91,9 +104,9 @@ module _ (m : MultiRules) where
         go None = refl
         go (Some d) = refl
 
-    insides : (seat : Seat) (w : List Word) → seat.mode.root ≡ 4 → AreProper r seat w → Insides r seat w
-    insides seat w four proper = record {
-      own = λ x q. own_decided seat w x four q;
+    insides : (seat : Seat) (w : List Word) → AreProper r seat w → Insides r seat w
+    insides seat w proper = record {
+      own = λ x q. own_decided seat w x q;
       last = λ x q. absurd cc;
       latest = λ a v q. absurd cc;
       bit = λ a k o q. laws.inside_bit (multi_root_desk seat) w a k (are_multi seat w proper) o q;
@@ -101,7 +114,8 @@ module _ (m : MultiRules) where
 
   one : HasOneInstance r
   one = record {
-    serves = λ root e. ap has_instance (eqb-true root 4 e);
+    purpose = refl;
+    serves = λ root e. ap purpose_of (eqb-true root 4 e);
     given = λ seat w. refl;
     completed = λ seat w. refl;
     base = λ seat w o. refl;
@@ -116,7 +130,7 @@ module _ (m : MultiRules) where
 
   pub root_word_laws : MultiLaws m → WordLaws (multi_root m)
   root_word_laws laws = instance_word_laws (multi_root m) one (record {
-    ending = λ seat w serves. is_ending seat.mode.root (m.decision (multi_root_desk seat) w) (eqb-true seat.mode.root 4 serves);
+    ending = λ seat w serves. is_ending (m.decision (multi_root_desk seat) w);
     says = λ seat c w proper.
         fresh_other (IsMultiSaid (multi_root_desk seat)) (IsInstanceSaid seat) _ _ _
         (λ y h. multi_right seat y (eqb-true seat.mode.root 4 (served r seat c w proper)) h) (λ y h none. none)
@@ -124,6 +138,6 @@ module _ (m : MultiRules) where
     opens_stays = opens_stays laws;
     outcome_stays = λ seat c w d proper e.
         ending_stays laws (m.decision (multi_root_desk seat) w) (m.decision (multi_root_desk seat) (c ∷ w)) d (λ x q. laws.decision_stays (multi_root_desk seat) c w x (are_multi seat (c ∷ w) proper) q) e;
-    insides = λ seat w session serves proper. insides laws seat w (eqb-true seat.mode.root 4 serves) proper;
+    insides = λ seat w session serves proper. insides laws seat w proper;
     decided_stays = λ seat c w x d proper e. decided_stays laws seat c w x d proper e;
   })

@@ -1,4 +1,4 @@
-use Rattle.atomic_bcast.proofs.RootSteps.{notes_early}
+use Rattle.ordered_rounds.specs.Laws.EarlyCommands.{notes_early}
 use Rattle.atomic_bcast.proofs.cmd_root.CmdRoot.note.Goals as goal
 
 pub returns-in_ok-put_early-clause-noted : goal.returns-in_ok-put_early-clause-noted

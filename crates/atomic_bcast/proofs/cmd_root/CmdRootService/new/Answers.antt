@@ -1,5 +1,5 @@
 use Rattle.std.proofs.Common.{sym, refl}
-use Rattle.atomic_bcast.proofs.RootSteps.{new_known, new_tight}
+use Rattle.ordered_rounds.specs.Laws.EarlyCommands.{new_known, new_tight}
 use Rattle.atomic_bcast.proofs.cmd_root.CmdRootService.new.Goals as goal
 
 pub returns : goal.returns

@@ -1,8 +1,0 @@
-use Rattle.atomic_bcast.proofs.Taking.{heard_done}
-use Rattle.atomic_bcast.proofs.abc.AbcService.heard.Goals as goal
-
-pub returns : goal.returns
-returns g c =
-    heard_done g.V.VectorBox.stands g.V.VectorBox.rules g.met.V.VectorBox.vector_laws g.V.VectorBox.live g.V.VectorBox.shown g.met.V.VectorBox.shows
-    (g.C.Coin.bits c.args.coin.now) c.args.self.now c.take-taken.new.self c.end.new.self c.args.slot.now c.args.value.now c.take-taken.result c.new-made.result.items
-    c.take-taken.new.made.items c.args.says.now.items c.end.new.says.items c.end.result c.new-made.ensures.items c.take-taken.ensures.ok c.take-taken.ensures.err c.end.ensures

@@ -1,5 +1,0 @@
-use Rattle.atomic_bcast.proofs.LedgerSteps.{pending_test}
-use Rattle.atomic_bcast.proofs.ledger.Ledger.has_pending.Goals as goal
-
-pub returns : goal.returns
-returns c = λ delivered log stands. pending_test c.args.self.now delivered log c.is_empty.result c.is_empty.ensures stands

@@ -1,7 +1,0 @@
-use Rattle.std.proofs.Common.{◌-◌}
-use Rattle.atomic_bcast.proofs.BackingSteps.{IsNoting}
-use Rattle.atomic_bcast.proofs.wanted.note_lists.Given as goal
-use Rattle.frame_codec.specs.Values.{vector_entries}
-
-abbrev pub invariant-loop-k : goal.invariant-loop-k
-invariant-loop-k l = IsNoting l.noted l.k (l.count - l.k) l.rest (vector_entries l.vector)

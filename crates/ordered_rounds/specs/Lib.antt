@@ -1,0 +1,17 @@
+pub mod Identifiers
+pub mod Box
+pub mod BoxCalls
+pub mod Rounds
+pub mod Early
+pub mod Pending
+pub mod Ledger
+pub mod Boxes
+pub mod Backing
+pub mod Waiting
+pub mod OrderedGetters
+pub mod OrderedStands
+pub mod Stepping
+pub mod Turning
+pub mod RoundsAgree
+pub mod Appended
+pub mod Laws
