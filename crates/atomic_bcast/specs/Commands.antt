@@ -1,7 +1,7 @@
 -- The service of commands alone: each input is broadcast at the origin's next number, and nothing is decided.
-use Rattle.std.specs.Prelude.{ℕ, ◌+◌, Bool, false, not, ◌==◌, ◌||◌, List, [], ◌∷◌, length, unwrap_or, None}
+use Rattle.std.specs.Prelude.{ℕ, ◌+◌, Bool, false, not, ◌==◌, ◌||◌, List, [], length, unwrap_or, None}
 use Rattle.std.specs.List.{find, range_with_len}
-use Rattle.layer_api.specs.Service.{ServiceRules, Seat, Carries, Undecided}
+use Rattle.layer_api.specs.Service.{ServiceRules, Carries, Undecided}
 use Rattle.layer_api.specs.Words.{Word, is_heard, asked}
 use Rattle.ritas_base.specs.Slots.{command_slot}
 use Rattle.ordered_rounds.specs.Rounds.{says_input}

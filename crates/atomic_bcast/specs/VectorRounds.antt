@@ -1,9 +1,8 @@
 -- The rounds of atomic broadcast over vector consensus: a vector of lists of identifiers is agreed on, and those are wanted in the log that
 -- stand in f + 1 of its lists.
-use Rattle.std.specs.Prelude.{◌≡◌, ℕ, List}
+use Rattle.std.specs.Prelude.{◌≡◌, List}
 use Rattle.ritas_base.specs.declared.root_service.RootService.TheVariants.{Atomic}
 use Rattle.ritas_base.specs.RootServices.{root_number}
-use Rattle.ritas_base.specs.Numbers.{Numbers}
 use Rattle.frame_codec.specs.Values.{vector_entries}
 use Rattle.layer_api.specs.Words.{Word}
 use Rattle.layer_api.specs.Service.{ServiceRules, vector_with}

@@ -3,7 +3,7 @@
 use Rattle.std.specs.Prelude.{ℕ, ◌+◌, Bool, ◌==◌, ◌&&◌, nat_le, if◌then◌else◌, [], Option, Some, None, option_map}
 use Rattle.ritas_base.specs.declared.slot.Slot.{Slot}
 use Rattle.ritas_base.specs.Slots.{within}
-use Rattle.layer_api.specs.Service.{ServiceRules, Seat, Instance, OfBit, OfValue, OfVector, Decision, Bit, Ending, Undecided, Over, Decided}
+use Rattle.layer_api.specs.Service.{ServiceRules, Seat, Decides, Instance, OfBit, OfValue, OfVector, Decision, Bit, Ending, Undecided, Over, Decided}
 use Rattle.layer_api.specs.OneInstance.{is_given}
 use Rattle.layer_api.specs.Binary.{BinaryRules, Bench}
 
@@ -31,6 +31,7 @@ binary_decided_in o (OfVector a) = None
 abbrev pub binary_root : BinaryRules → ServiceRules
 binary_root b = record {
   serves = λ root. root == 3;
+  purpose = Decides (OfBit 0 0);
   says = λ seat w c. b.says (root_bench seat) w c;
   opens = λ seat w s. step_opens (is_given w) (b.round (root_bench seat) w) s;
   completed = λ seat w. 0;

@@ -1,5 +1,5 @@
 -- A round is complete exactly where its decision is known and all that this wants is there.
-use Rattle.std.specs.Prelude.{◌≡◌, ℕ, suc, ◌+◌, ◌<◌, ◌≤◌, nat_lt, nat_le, Bool, true, false, List, [], ◌∷◌, reverse, Option, Some, None, is_some, if◌then◌else◌, slice_index, Result, Ok, Err, OnErr, refl}
+use Rattle.std.specs.Prelude.{◌≡◌, ℕ, suc, ◌+◌, ◌<◌, ◌≤◌, nat_lt, Bool, true, false, List, [], ◌∷◌, reverse, Option, Some, None, is_some, if◌then◌else◌, slice_index, Result, Ok, Err, OnErr, refl}
 use Rattle.std.specs.List.{AllByRecursion}
 use Rattle.std.specs.declared.vec.Vec.{Vec}
 use Rattle.std.proofs.Common.{sym, ◌∙◌, ap, ap₂, subst, inl, inr, arith}
@@ -12,10 +12,8 @@ use Rattle.layer_api.specs.Words.{Word}
 use Rattle.layer_api.specs.Multi.{Desk}
 use Rattle.ordered_rounds.specs.Box.{RoundRules, RoundLaws}
 use Rattle.ordered_rounds.specs.BoxCalls.{RoundShown}
-use Rattle.ordered_rounds.specs.Identifiers.{passing_ids, is_without, in_order, all_pass, append_ids, IsSorted}
-use Rattle.ordered_rounds.specs.Laws.Ordered.{in_order_sorted, kept_sorted}
-use Rattle.layer_api.specs.Proposals.{backers}
-use Rattle.ordered_rounds.specs.Rounds.{delivered_ids, entry_ids, has_command, round_desk, round_ask, rounds}
+use Rattle.ordered_rounds.specs.Identifiers.{passing_ids, is_without, all_pass, append_ids, IsSorted}
+use Rattle.ordered_rounds.specs.Rounds.{delivered_ids, has_command, round_desk, round_ask, rounds}
 use Rattle.ordered_rounds.specs.Laws.WordsMeet.{delivered_good}
 use Rattle.ordered_rounds.specs.Stepping.{current, log_now, heard_words, words_now}
 use Rattle.ordered_rounds.specs.Ledger.{LedgerStands, IsReady, Between}
@@ -29,7 +27,6 @@ use Rattle.ordered_rounds.proofs.Pending.{above_all}
 use Rattle.ordered_rounds.proofs.Stepped.{some_value, all_delivered, complete_where, Goes, stays_or_goes, words_same, was_asked, done}
 use Rattle.ordered_rounds.proofs.Near.{near_before, mid_before}
 use Rattle.ordered_rounds.proofs.Turns.{begun_some, poised_stays, poised_next}
-use Rattle.frame_codec.specs.Values.{vector_entries}
 
 -- ---- what is wanted is ready
 

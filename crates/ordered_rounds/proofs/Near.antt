@@ -4,8 +4,8 @@ use Rattle.std.proofs.Common.{sym, ◌∙◌, ap, ap₂, subst, inl, inr, arith}
 use Rattle.std.proofs.lemmas.Bool.{cases_lt, and_left, and_parts, le-ltb}
 use Rattle.ritas_base.specs.declared.slot.Slot.{Slot}
 use Rattle.ritas_base.specs.declared.id.Id.{Id}
-use Rattle.ritas_base.specs.Numbers.{Numbers, IsSession}
-use Rattle.layer_api.specs.Service.{Seat, AreProper, IsPart, Decided, Undecided, Spent, vector_with}
+use Rattle.ritas_base.specs.Numbers.{IsSession}
+use Rattle.layer_api.specs.Service.{Seat, AreProper, IsPart, Decided, Undecided, Spent}
 use Rattle.layer_api.specs.Words.{Word, asked}
 use Rattle.layer_api.specs.Part.{passed}
 use Rattle.layer_api.specs.Multi.{Desk}

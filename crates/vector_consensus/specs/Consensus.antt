@@ -14,21 +14,9 @@ use Rattle.layer_api.specs.Words.{Word, value_at}
 use Rattle.layer_api.specs.Part.{proposed, newly, part_of, part_words, says_in}
 use Rattle.layer_api.specs.Multi.{Scope, Desk, MultiRules}
 use Rattle.layer_api.specs.Vectors.{VectorRules, is_vector_slot}
+pub use Rattle.layer_api.specs.RoundLists.{prop_slot, props, present}
 
 -- ---- proposals
-
-abbrev pub prop_slot : Scope → ℕ → Slot
-prop_slot at k = record { class = 2; a = at.a; attempt = 0; bround = 0; step = 0; origin = k }
-
--- what each replica proposed
-abbrev pub props : Scope → List Word → List (Option (List ℕ))
-props at h = map (λ k. value_at h (prop_slot at k)) (replicas at.numbers.n)
-
--- those that are there
-abbrev pub present : List (Option (List ℕ)) → List (List ℕ)
-present [] = []
-present (None ∷ os) = present os
-present (Some v ∷ os) = v ∷ present os
 
 -- the vector of all proposals
 abbrev pub vector_of : Scope → List Word → List ℕ

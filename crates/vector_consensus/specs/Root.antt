@@ -1,6 +1,6 @@
 -- Vector consensus as a root service: one instance, of round 0, whose input is a value of class 2.
 use Rattle.std.specs.Prelude.{ℕ, ◌==◌, ◌&&◌, if◌then◌else◌, List, [], Option, Some, None}
-use Rattle.layer_api.specs.Service.{ServiceRules, Seat, vector_with, Instance, OfBit, OfValue, OfVector, Decision, vector_decision, Ending, Undecided, Decided}
+use Rattle.layer_api.specs.Service.{ServiceRules, Seat, Decides, vector_with, Instance, OfBit, OfValue, OfVector, Decision, vector_decision, Ending, Undecided, Decided}
 use Rattle.layer_api.specs.Words.{Word}
 use Rattle.layer_api.specs.OneInstance.{is_given}
 use Rattle.layer_api.specs.Multi.{Desk}
@@ -22,6 +22,7 @@ vector_decided_in v seat w (OfVector a) = if a == 0 then v.inside (vector_root_d
 abbrev pub vector_root : VectorRules → ServiceRules
 vector_root v = record {
   serves = λ root. root == 5;
+  purpose = Decides (OfVector 0);
   says = λ seat w c. v.says (vector_root_desk seat) w c;
   opens = λ seat w s. is_vector_slot (vector_root_desk seat).scope s && v.opens (vector_root_desk seat) w s;
   completed = λ seat w. 0;

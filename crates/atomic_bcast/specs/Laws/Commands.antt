@@ -1,8 +1,8 @@
 -- The laws of the service of commands: what is said is new, and the base is the least number that was not heard.
-use Rattle.std.specs.Prelude.{◌≡◌, ℕ, ◌+◌, ◌<◌, ◌≤◌, Bool, true, false, ◌==◌, ◌&&◌, nat_lt, not, List, [], ◌∷◌, Option, Some, None, MatchOption, length, unwrap_or, refl, ◌⊎◌}
-use Rattle.std.proofs.Common.{sym, ◌∙◌, ap, subst, inl, inr, arith, zero, suc}
+use Rattle.std.specs.Prelude.{◌≡◌, ℕ, ◌+◌, ◌<◌, ◌≤◌, true, false, ◌==◌, nat_lt, List, [], ◌∷◌, Option, Some, None, MatchOption, length, unwrap_or, refl, ◌⊎◌}
+use Rattle.std.proofs.Common.{sym, ◌∙◌, ap, subst, inl, inr, arith}
 use Rattle.std.specs.List.{find, range_with_len, list_any}
-use Rattle.std.proofs.lemmas.Bool.{cases_Bool, cases_order, or_cases, or_left, or_right, or_from, not-true, not-false, eq-eqb, eqb-true, lt-ltb, ltb-true, leb-false, both_ways, cond-true, cond-false, false_from_ne_true}
+use Rattle.std.proofs.lemmas.Bool.{cases_order, or_cases, or_left, or_right, or_from, not-true, not-false, eq-eqb, eqb-true, lt-ltb, ltb-true, leb-false, both_ways, cond-true, false_from_ne_true}
 use Rattle.std.proofs.lemmas.Map.Steps.{le-length_from_below}
 use Rattle.ritas_base.specs.declared.slot.Slot.{Slot}
 use Rattle.ritas_base.specs.declared.mode.Mode.{Mode}

@@ -1,7 +1,6 @@
 -- The laws of rounds of vector consensus, from those of its box.
-use Rattle.std.specs.Prelude.{◌≡◌, ℕ, ◌+◌, ◌≤◌, Bool, true, false, nat_le, List, [], ◌∷◌, length, Option, Some, None, is_some, refl}
+use Rattle.std.specs.Prelude.{◌≡◌, ℕ, ◌+◌, Bool, true, nat_le, List, [], ◌∷◌, length, Option, Some, None, is_some, refl}
 use Rattle.std.proofs.Common.{sym, ◌∙◌, ap, ap₂, subst, arith}
-use Rattle.std.proofs.lemmas.Bool.{and_parts}
 use Rattle.std.proofs.lemmas.List.FromFn.{length-range_with_len}
 use Rattle.ritas_base.specs.declared.slot.Slot.{Slot}
 use Rattle.ritas_base.specs.declared.id.Id.{Id}
@@ -14,7 +13,7 @@ use Rattle.ritas_base.specs.Quorums.{meet_two}
 use Rattle.frame_codec.specs.EntryCountLaws.{entries_by_place}
 use Rattle.frame_codec.specs.Values.{ids_of, vector_entries, entry_at_place, is_passed}
 use Rattle.layer_api.specs.Runs.{ReplicaStep, calls_of, IsEnough}
-use Rattle.layer_api.specs.Words.{Word, Ask, Hear, AllMet, all_said, AreFresh}
+use Rattle.layer_api.specs.Words.{Word, Ask, Hear, all_said}
 use Rattle.layer_api.specs.Service.{OfVector, Value, LastVector, IsAttemptOf, has_id, vector_with, vector_decision}
 use Rattle.layer_api.specs.DecisionLaws.{vector_is, vector_parts}
 use Rattle.layer_api.specs.Fed.{IsFedRun}

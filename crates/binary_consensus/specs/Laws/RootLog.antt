@@ -7,7 +7,7 @@ use Rattle.ritas_base.specs.declared.slot.Slot.{Slot}
 use Rattle.ritas_base.specs.declared.mode.Mode.{Mode}
 use Rattle.ritas_base.specs.Numbers.{Numbers}
 use Rattle.layer_api.specs.Runs.{ReplicaStep, calls_of, Has}
-use Rattle.layer_api.specs.Service.{Instance, OfBit, OfValue, OfVector, Decision, Bit, Decided, Spent}
+use Rattle.layer_api.specs.Service.{Decides, Instance, OfBit, OfValue, OfVector, Decision, Bit, Decided, Spent}
 use Rattle.layer_api.specs.Words.{Word, Ask, bit_byte}
 use Rattle.layer_api.specs.Fed.{IsFedRun}
 use Rattle.layer_api.specs.FedLaws.{same_fed}
@@ -44,6 +44,13 @@ own_bit a attempt o x q = go (a == 0 && attempt == 0) refl o q
         let h = and_parts (a == 0) (attempt == 0) e in
         let same : y ≡ x = cc in
         (eqb-true a 0 h.0, eqb-true attempt 0 h.1, ap Some same)
+
+-- the one instance is one of a bit
+no_value : (a attempt : ℕ) → Decides (OfBit 0 0) ≡ Decides (OfValue a attempt) → ⊥
+no_value a attempt e = cc
+
+no_vector : (a : ℕ) → Decides (OfBit 0 0) ≡ Decides (OfVector a) → ⊥
+no_vector a e = cc
 
 bit_same : (x y : Bool) → Bit x ≡ Bit y → x ≡ y
 bit_same x y e = cc
@@ -118,10 +125,10 @@ root_one_log b one = record {
   outcomes = λ p mode is_correct coins steps run. same_outcomes b one p mode is_correct coins steps run;
   decisions = λ p mode is_correct coins steps run. same_decisions b one p mode is_correct coins steps run;
   bits = λ p mode is_correct coins steps run. bits_are_inputs b one p mode is_correct coins steps run;
-  proposals = λ p mode is_correct coins steps run four i v ci q. absurd (let e = eqb-true mode.root 3 run.serves in omega (arith, e, four));
+  proposals = λ p mode is_correct coins steps run a attempt other i v ci q. absurd (no_value a attempt other);
   unspent = λ p mode is_correct coins steps run i ci q. absurd (let x = ending_is _ _ Spent q in spent_bit x.0 x.2);
   last_vectors = λ p mode is_correct coins steps run i j x y ci cj q. absurd cc;
   proposed = λ p mode is_correct coins steps run i ci. decisions_proposed b one p mode is_correct coins steps run i ci;
-  entries = λ p mode is_correct coins steps run five i k v e ci ck q r. absurd (let e = eqb-true mode.root 3 run.serves in omega (arith, e, five));
+  entries = λ p mode is_correct coins steps run a other i k v e ci ck q r. absurd (no_vector a other);
   appended = λ p mode is_correct coins steps run i x ci there. absurd cc;
 }

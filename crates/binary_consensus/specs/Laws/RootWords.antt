@@ -8,7 +8,7 @@ use Rattle.ritas_base.specs.declared.item.Say.{Say}
 use Rattle.ritas_base.specs.declared.mode.Mode.{Mode}
 use Rattle.ritas_base.specs.Numbers.{Numbers}
 use Rattle.ritas_base.specs.Slots.{within, has_class, slot_fault}
-use Rattle.layer_api.specs.Service.{ServiceRules, Seat, Instance, OfBit, OfValue, OfVector, Decision, Bit, Decided, ending_decision, own_instance, MayAsk, MayHear, AreProper, has_instance, IsEnding, Insides, WordLaws}
+use Rattle.layer_api.specs.Service.{ServiceRules, Seat, Instance, OfBit, OfValue, OfVector, Decision, Bit, Decided, ending_decision, Decides, purpose_of, MayAsk, MayHear, AreProper, IsEnding, Insides, WordLaws}
 use Rattle.layer_api.specs.Words.{Word, Ask, Hear, asked, bit_byte}
 use Rattle.layer_api.specs.FreshLaws.{fresh_other}
 use Rattle.layer_api.specs.OneInstance.{is_given, not_given, given_some, given_stays, HasOneInstance, IsInstanceSaid, served, asked_once, instance_word_laws}
@@ -25,7 +25,8 @@ module _ (b : BinaryRules) where
 
   pub one : HasOneInstance r
   one = record {
-    serves = λ root e. ap has_instance (eqb-true root 3 e);
+    purpose = refl;
+    serves = λ root e. ap purpose_of (eqb-true root 3 e);
     given = λ seat w. refl;
     completed = λ seat w. refl;
     base = λ seat w o. refl;
@@ -140,10 +141,10 @@ own_decided None true = refl
 own_decided None false = refl
 
 -- an instance of one bit ends by a bit, or with its rounds
-is_ending : (root : ℕ) (o : Option Bool) (is_over : Bool) → root ≡ 3 → IsEnding root (binary_ending o is_over)
-is_ending root (Some bit) is_over three = three
-is_ending root None true three = three
-is_ending root None false three = tt
+is_ending : (o : Option Bool) (is_over : Bool) → IsEnding (Decides (OfBit 0 0)) (binary_ending o is_over)
+is_ending (Some bit) is_over = tt
+is_ending None true = tt
+is_ending None false = tt
 
 module _ (b : BinaryRules) where
   module _ (laws : BoxLaws b) where
@@ -161,12 +162,12 @@ module _ (b : BinaryRules) where
         → b.decision (root_bench seat) w ≡ Some x → b.decision (root_bench seat) (c ∷ w) ≡ Some x
     stays seat c w x proper q = laws.decision_stays (root_bench seat) c w x (are_votes b seat (c ∷ w) proper) q
 
-    insides : (seat : Seat) (w : List Word) → seat.mode.root ≡ 3 → Insides (binary_root b) seat w
-    insides seat w three = record {
+    insides : (seat : Seat) (w : List Word) → Insides (binary_root b) seat w
+    insides seat w = record {
       own = λ x q.
           let o = b.decision (root_bench seat) w in
           let is_over = b.over (root_bench seat) w in
-          let e : OfBit 0 0 ≡ x = let p = ap own_instance (sym three) ∙ q in cc in
+          let e : OfBit 0 0 ≡ x = cc in
           subst (λ (y : Instance). binary_decided_in o y ≡ ending_decision (binary_ending o is_over)) e (own_decided o is_over);
       last = λ x q. absurd cc;
       latest = λ a v q. absurd cc;
@@ -175,13 +176,13 @@ module _ (b : BinaryRules) where
 
     pub root_word_laws : WordLaws (binary_root b)
     root_word_laws = instance_word_laws (binary_root b) (one b) (record {
-      ending = λ seat w serves. is_ending seat.mode.root (b.decision (root_bench seat) w) (b.over (root_bench seat) w) (root_three b seat serves);
+      ending = λ seat w serves. is_ending (b.decision (root_bench seat) w) (b.over (root_bench seat) w);
       says = λ seat c w proper.
           fresh_other (IsVoteSaid (root_bench seat)) (IsInstanceSaid seat) _ _ _
           (λ y h. vote_right seat y (root_three b seat (served (binary_root b) seat c w proper)) h) (λ y h none. none)
           (laws.says_new (root_bench seat) c w (are_votes b seat (c ∷ w) proper));
       opens_stays = opens_stays;
       outcome_stays = λ seat c w d proper e. ending_stays _ _ _ _ d (λ x q. stays seat c w x proper q) e;
-      insides = λ seat w session serves proper. insides seat w (root_three b seat serves);
+      insides = λ seat w session serves proper. insides seat w;
       decided_stays = λ seat c w x d proper e. decided_stay _ _ x d (λ y q. stays seat c w y proper q) e;
     })

@@ -4,7 +4,7 @@ use Rattle.std.proofs.Common.{sym, ◌∙◌, ap, ap₂, subst, inl, inr, arith}
 use Rattle.std.proofs.lemmas.Bool.{cases_lt, lt-ltb, le-ltb, le-leb, lt-leb, and_right, and_left, or_from, or_left, cond-true, ne_eqb}
 use Rattle.ritas_base.specs.declared.slot.Slot.{Slot}
 use Rattle.ritas_base.specs.declared.id.Id.{Id}
-use Rattle.ritas_base.specs.Numbers.{Numbers, IsSession}
+use Rattle.ritas_base.specs.Numbers.{IsSession}
 use Rattle.layer_api.specs.Service.{Seat, AreProper, Decided, Undecided, Spent, LastVector}
 use Rattle.layer_api.specs.ServiceCalls.{Shows}
 use Rattle.layer_api.specs.Words.{Word, Ask, Hear}

@@ -1,5 +1,5 @@
 -- The root services of atomic broadcast are two.
-use Rattle.std.specs.Prelude.{◌≡◌, ℕ, Bool, true, ◌==◌}
+use Rattle.std.specs.Prelude.{◌≡◌, ℕ, true, ◌==◌}
 use Rattle.std.proofs.Common.{sym, subst, inl, inr}
 use Rattle.std.proofs.lemmas.Bool.{or_cases, eqb-true}
 use Rattle.ritas_base.specs.Slots.{is_atomic}

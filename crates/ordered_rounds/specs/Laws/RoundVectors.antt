@@ -1,8 +1,8 @@
 -- Where rounds decide vectors a complete round has one, and what it has is the value of the attempt that decided it; so what
 -- instances inside decided goes together with the last vector.
-use Rattle.std.specs.Prelude.{◌≡◌, ℕ, zero, suc, ◌<◌, ◌≤◌, true, List, ◌∷◌, Option, Some, None, is_some, refl, ◌⊎◌}
+use Rattle.std.specs.Prelude.{◌≡◌, ℕ, zero, suc, ◌<◌, ◌≤◌, true, List, ◌∷◌, Option, Some, None, refl}
 use Rattle.std.specs.Option.{option_or}
-use Rattle.std.proofs.Common.{sym, ◌∙◌, ap, ap₂, subst, inl, inr, arith}
+use Rattle.std.proofs.Common.{sym, ◌∙◌, ap, subst, inl, inr, arith}
 use Rattle.std.proofs.lemmas.Bool.{cases_order}
 use Rattle.std.proofs.lemmas.Option.{none-some}
 use Rattle.ritas_base.specs.declared.id.Id.{Id}
@@ -11,8 +11,7 @@ use Rattle.ritas_base.specs.Slots.{has_tries}
 use Rattle.ordered_rounds.specs.Laws.Roots.{atomic_root}
 use Rattle.ritas_base.specs.Shortest.{option_or_some, option_or_older}
 use Rattle.layer_api.specs.Words.{Word}
-use Rattle.layer_api.specs.Service.{Seat, OfVector, Value, LastVector, AreProper, IsAttemptOf, Insides, vector_with}
-use Rattle.layer_api.specs.DecisionLaws.{vector_is, vector_parts}
+use Rattle.layer_api.specs.Service.{Seat, OfVector, Value, LastVector, AreProper, IsAttemptOf, Insides}
 use Rattle.layer_api.specs.FedLaws.{shortest_at}
 use Rattle.ordered_rounds.specs.Box.{RoundRules, RoundLaws}
 use Rattle.ordered_rounds.specs.Rounds.{round_desk, round_words, round_decides, completes_at, log_below, complete_of, vector_of_round, last_complete, last_vector, inside_of, rounds, ordered}

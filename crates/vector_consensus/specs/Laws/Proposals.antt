@@ -1,10 +1,10 @@
 -- The vector of all proposals is a vector, once n - f of them are there.
-use Rattle.std.specs.Prelude.{◌≡◌, ℕ, ◌<◌, ◌≤◌, ◌^◌, true, nat_lt, List, [], ◌∷◌, map, length, count_by, Option, Some, None, is_some, refl}
+use Rattle.std.specs.Prelude.{◌≡◌, ℕ, ◌==◌, ◌<◌, ◌≤◌, ◌^◌, true, nat_lt, List, [], ◌∷◌, map, length, count_by, Option, Some, None, is_some, refl}
 use Rattle.std.specs.List.{AllByRecursion}
 use Rattle.std.specs.Int.RustNames.{count_ones}
 use Rattle.std.specs.Simd.Lanes.{mask_l}
-use Rattle.std.proofs.Common.{sym, ◌∙◌, subst, arith}
-use Rattle.std.proofs.lemmas.Bool.{and_from, lt-ltb, le-leb}
+use Rattle.std.proofs.Common.{sym, ◌∙◌, subst, inl, inr, arith}
+use Rattle.std.proofs.lemmas.Bool.{and_from, or_cases, eqb-true, lt-ltb, le-leb}
 use Rattle.std.proofs.Math.Pow.{pow-lt}
 use Rattle.std.proofs.lemmas.Simd.{mask_l-lt, ones-mask_l}
 use Rattle.std.proofs.lemmas.List.{length-map}
@@ -19,30 +19,16 @@ use Rattle.layer_api.specs.Words.{Word, value_at}
 use Rattle.layer_api.specs.Multi.{Scope}
 use Rattle.layer_api.specs.Vectors.{HasVectors}
 use Rattle.vector_consensus.specs.Consensus.{prop_slot, props, present, vector_of}
+pub use Rattle.layer_api.specs.RoundListLaws.{present_length, present_all, prop_value}
 
--- as many entries as places
-pub present_length : (os : List (Option (List ℕ))) → length (present os) ≡ count_by is_some os
-present_length [] = refl
-present_length (None ∷ os) = present_length os ∙ sym (count_no is_some None os refl)
-present_length (Some v ∷ os) = let e = count_yes is_some (Some v) os refl in let ih = present_length os in omega (arith, e, ih)
-
--- each entry was proposed
-pub present_all : (P : List ℕ → Type 0) (f : ℕ → Option (List ℕ)) → ((k : ℕ) (v : List ℕ) → f k ≡ Some v → P v) → (ks : List ℕ) → AllByRecursion P (present (map f ks))
-present_all P f all [] = tt
-present_all P f all (k ∷ ks) = go (f k) refl (present_all P f all ks)
-  where
-    go : (o : Option (List ℕ)) → f k ≡ o → AllByRecursion P (present (map f ks)) → AllByRecursion P (present (o ∷ map f ks))
-    go None e rest = rest
-    go (Some v) e rest = (all k v e, rest)
-
--- the value of a proposal's slot is of class 2, and that of class 3 is a vector
-pub prop_value : (p : Numbers) (root : ℕ) (at : Scope) (k : ℕ) → value p root (prop_slot at k) ≡ class2 p root
-unfolding value
-prop_value p root at k = refl
-
+-- a value of class 3 is a vector
 pub vector_class : (at : Scope) → HasVectors at → class3 at.numbers at.root ≡ vector at.numbers at.root
 unfolding class3
-vector_class at has = rw has refl
+vector_class at has =
+    elim (or_cases (at.root == 5) (at.root == 6) has) [
+      | inl e ↦ subst (λ (r : ℕ). class3 at.numbers r ≡ vector at.numbers r) (sym (eqb-true at.root 5 e)) refl
+      | inr e ↦ subst (λ (r : ℕ). class3 at.numbers r ≡ vector at.numbers r) (sym (eqb-true at.root 6 e)) refl
+    ]
 
 -- the proposals there are in the grammar
 abbrev pub AreGoodProposals : Scope → List Word → Type 0

@@ -9,7 +9,7 @@ use Rattle.frame_codec.specs.Format.{Format, Is}
 use Rattle.frame_codec.specs.Grammar.{class2, value}
 use Rattle.frame_codec.specs.Inputs.{input_format}
 use Rattle.layer_api.specs.Runs.{ReplicaStep, calls_of, Has}
-use Rattle.layer_api.specs.Service.{Seat, MayAsk, MayHear, MayWord, Instance, OfBit, OfValue, OfVector, Decision, Value, Bit, Spent, Decided, LastVector, vector_decision, vector_with}
+use Rattle.layer_api.specs.Service.{Seat, Decides, MayAsk, MayHear, MayWord, Instance, OfBit, OfValue, OfVector, Decision, Value, Bit, Spent, Decided, LastVector, vector_decision, vector_with}
 use Rattle.layer_api.specs.DecisionLaws.{decided_vector, vector_is, vector_parts, if_so}
 use Rattle.layer_api.specs.Words.{Word, Ask, Hear}
 use Rattle.layer_api.specs.OneLog.{Session, seat_at, service_play, IsRunOf, OneLog}
@@ -148,16 +148,20 @@ module _ (v : VectorRules) (one : OneVector v) (p : Numbers) (mode : Mode) (is_c
         | inr x ↦ bit_spent b x.1
       ]
 
+-- the one instance is one of a vector
+no_value : (a attempt : ℕ) → Decides (OfVector 0) ≡ Decides (OfValue a attempt) → ⊥
+no_value a attempt e = cc
+
 pub root_log : (v : VectorRules) → OneVector v → OneLog (vector_root v)
 root_log v one = record {
   logs = λ p mode is_correct coins steps run i j ci cj. inl ([], refl);
   outcomes = λ p mode is_correct coins steps run. outcomes v one p mode is_correct coins steps run;
   decisions = λ p mode is_correct coins steps run. decisions v one p mode is_correct coins steps run;
   bits = λ p mode is_correct coins steps run i b ci q. absurd (no_bits v one p mode is_correct coins steps run i b q);
-  proposals = λ p mode is_correct coins steps run four i x ci q. absurd (let e = eqb-true mode.root 5 run.serves in omega (arith, e, four));
+  proposals = λ p mode is_correct coins steps run a attempt other i x ci q. absurd (no_value a attempt other);
   unspent = λ p mode is_correct coins steps run. not_spent v one p mode is_correct coins steps run;
   last_vectors = λ p mode is_correct coins steps run i j x y ci cj q r same. one_last v one p mode is_correct coins steps run i j x y ci cj q r;
   proposed = λ p mode is_correct coins steps run i ci. decisions_proposed v one p mode is_correct coins steps run i ci;
-  entries = λ p mode is_correct coins steps run five i k x e ci ck q r. entries v one p mode is_correct coins steps run i k x e ci ck q r;
+  entries = λ p mode is_correct coins steps run a own i k x e ci ck q r. entries v one p mode is_correct coins steps run i k x e ci ck q r;
   appended = λ p mode is_correct coins steps run i x ci there. absurd cc;
 }

@@ -6,10 +6,10 @@ use Rattle.ritas_base.specs.declared.slot.Slot.{Slot}
 use Rattle.ritas_base.specs.declared.item.Say.{Say}
 use Rattle.ritas_base.specs.declared.mode.Mode.{Mode}
 use Rattle.ritas_base.specs.Numbers.{IsSession}
-use Rattle.ritas_base.specs.Slots.{slot_fault, within, has_number}
+use Rattle.ritas_base.specs.Slots.{slot_fault, within, has_tries, has_number}
 use Rattle.frame_codec.specs.Format.{Is}
 use Rattle.frame_codec.specs.Grammar.{value}
-use Rattle.layer_api.specs.Service.{ServiceRules, Seat, LastVector, Instance, OfBit, OfValue, OfVector, Decision, Value, Decided, vector_decision, vector_with, IsAttemptOf, ending_decision, own_instance, AreProper, has_instance, IsEnding, Insides, WordLaws}
+use Rattle.layer_api.specs.Service.{ServiceRules, Seat, LastVector, Instance, OfBit, OfValue, OfVector, Decision, Value, Decided, vector_decision, vector_with, IsAttemptOf, ending_decision, own_instance, Decides, purpose_of, AreProper, IsEnding, Insides, WordLaws}
 use Rattle.layer_api.specs.DecisionLaws.{vector_is, vector_stays, vector_parts, if_stays}
 use Rattle.layer_api.specs.FreshLaws.{fresh_other}
 use Rattle.layer_api.specs.OneInstance.{HasOneInstance, IsInstanceSaid, served, instance_word_laws}
@@ -22,13 +22,13 @@ use Rattle.vector_consensus.specs.Laws.RootLog.{may_word}
 -- ---- slots of the root service
 
 root_right : (mode : Mode) (seat : Seat) (s : Slot) → mode.root ≡ 5 → is_vector_slot (vector_root_desk seat).scope s ≡ true → s.origin < seat.numbers.n → slot_fault seat.numbers mode s ≡ None
-root_right mode seat s five e below = vector_slot_right seat.numbers mode 0 s (inl five) (ap (λ (r : ℕ). has_number r 0) five) e below
+root_right mode seat s five e below = vector_slot_right seat.numbers mode 0 s (ap has_tries five) (ap (λ (r : ℕ). has_number r 0) five) e below
 
 -- an instance of vectors ends by a vector, or its attempts are spent
-is_ending : (root : ℕ) (o : Option (List ℕ)) (is_spent : Bool) → root ≡ 5 → IsEnding root (vector_ending (vector_decision o is_spent))
-is_ending root (Some v) is_spent five = inr five
-is_ending root None true five = inl five
-is_ending root None false five = tt
+is_ending : (o : Option (List ℕ)) (is_spent : Bool) → IsEnding (Decides (OfVector 0)) (vector_ending (vector_decision o is_spent))
+is_ending (Some v) is_spent = tt
+is_ending None true = tt
+is_ending None false = tt
 
 -- ---- words
 
@@ -55,7 +55,8 @@ module _ (m : VectorRules) where
 
   one : HasOneInstance r
   one = record {
-    serves = λ root e. ap has_instance (eqb-true root 5 e);
+    purpose = refl;
+    serves = λ root e. ap purpose_of (eqb-true root 5 e);
     given = λ seat w. refl;
     completed = λ seat w. refl;
     base = λ seat w o. refl;
@@ -86,10 +87,10 @@ module _ (m : VectorRules) where
         if_stays (a == 0) (m.inside (vector_root_desk seat) w (OfVector 0)) (m.inside (vector_root_desk seat) (c ∷ w) (OfVector 0)) d
         (λ y q. laws.inside_stays (vector_root_desk seat) c w (OfVector 0) y (session_of seat c w proper) refl (are_vector seat (c ∷ w) proper) q) e
 
-    own_decided : (seat : Seat) (w : List Word) (x : Instance) → seat.mode.root ≡ 5 → own_instance seat.mode.root ≡ Some x
+    own_decided : (seat : Seat) (w : List Word) (x : Instance) → own_instance r.purpose ≡ Some x
         → vector_decided_in m seat w x ≡ ending_decision (vector_ending (now seat w))
-    own_decided seat w x five q =
-        let e : OfVector 0 ≡ x = let p = ap own_instance (sym five) ∙ q in cc in
+    own_decided seat w x q =
+        let e : OfVector 0 ≡ x = cc in
         subst (λ (y : Instance). vector_decided_in m seat w y ≡ ending_decision (vector_ending (now seat w))) e (laws.inside_own (vector_root_desk seat) w ∙ go (now seat w))
       where
         go : (o : Option Decision) → o ≡ ending_decision (vector_ending o)
@@ -120,9 +121,9 @@ module _ (m : VectorRules) where
             let zero = eqb-true a 0 e in
             (record { round = 0; attempt = k.0; value = v }, ap₂ (vector_with 0) k.1 d, omega (arith, zero))
 
-    insides : (seat : Seat) (w : List Word) → IsSession seat.numbers → seat.mode.root ≡ 5 → AreProper r seat w → Insides r seat w
-    insides seat w session five proper = record {
-      own = λ x q. own_decided seat w x five q;
+    insides : (seat : Seat) (w : List Word) → IsSession seat.numbers → AreProper r seat w → Insides r seat w
+    insides seat w session proper = record {
+      own = λ x q. own_decided seat w x q;
       last = λ x q. last_decided seat w x q;
       latest = λ a v q. latest seat w a v q;
       bit = λ a k o q. laws.inside_bit (vector_root_desk seat) w a k session refl (are_vector seat w proper) o q;
@@ -136,7 +137,7 @@ module _ (m : VectorRules) where
 
   pub root_word_laws : VectorLaws m → WordLaws (vector_root m)
   root_word_laws laws = instance_word_laws (vector_root m) one (record {
-    ending = λ seat w serves. is_ending seat.mode.root (m.decision (vector_root_desk seat) w) (m.spent (vector_root_desk seat) w) (eqb-true seat.mode.root 5 serves);
+    ending = λ seat w serves. is_ending (m.decision (vector_root_desk seat) w) (m.spent (vector_root_desk seat) w);
     says = λ seat c w proper.
         fresh_other (IsVectorSaid (vector_root_desk seat)) (IsInstanceSaid seat) _ _ _
         (λ y h. vector_right seat y (eqb-true seat.mode.root 5 (served r seat c w proper)) h) (λ y h none. none)
@@ -144,6 +145,6 @@ module _ (m : VectorRules) where
     opens_stays = opens_stays laws;
     outcome_stays = λ seat c w d proper e.
         ending_stays laws (now laws seat w) (now laws seat (c ∷ w)) d (now_stays laws seat c w d proper) e;
-    insides = λ seat w session serves proper. insides laws seat w session (eqb-true seat.mode.root 5 serves) proper;
+    insides = λ seat w session serves proper. insides laws seat w session proper;
     decided_stays = λ seat c w x d proper e. decided_stays laws seat c w x d proper e;
   })

@@ -1,0 +1,4 @@
+pub mod Lists
+pub mod Stands
+pub mod Rows
+pub mod Laws
