@@ -1,22 +1,18 @@
 -- How many lists name an identifier, as one list more is heard.
 use Rattle.std.specs.Prelude.{◌≡◌, ℕ, zero, suc, ◌+◌, ◌<◌, ◌≤◌, Bool, true, false, ◌==◌, ◌&&◌, ◌||◌, List, [], ◌∷◌, count_by, ◌++◌, nat_le, length, take, Option, Some, None, is_some, if◌then◌else◌, refl}
 use Rattle.std.specs.List.{AllByRecursion}
-use Rattle.std.specs.Option.{option_or}
 use Rattle.std.specs.BTreeMap.{BTreeMap}
 use Rattle.std.proofs.Common.{sym, ◌∙◌, ap, inl, inr, arith}
-use Rattle.std.proofs.lemmas.Bool.{cases_eq, cases_Bool, eq-eqb, ne_eqb, le-leb, and_from, or_left, or_right}
-use Rattle.ritas_base.specs.declared.slot.Slot.{Slot}
+use Rattle.std.proofs.lemmas.Bool.{cases_eq, eq-eqb, ne_eqb, le-leb, and_from, or_left, or_right}
 use Rattle.ritas_base.specs.declared.id.Id.{Id}
 use Rattle.ritas_base.specs.History.{replicas}
 use Rattle.ritas_base.specs.Quorums.{count_by-map, count_same}
-use Rattle.ritas_base.specs.Shortest.{option_or_none}
-use Rattle.ritas_base.specs.SlotOrder.{is_slot, same_slot, slot_itself}
 use Rattle.frame_codec.specs.Values.{ids_of, is_passed}
 use Rattle.layer_api.specs.Service.{has_id}
 use Rattle.layer_api.specs.Words.{Word, Hear, value_at}
 use Rattle.layer_api.specs.Multi.{Scope}
 use Rattle.layer_api.specs.RoundLists.{prop_slot, props, present}
-use Rattle.layer_api.specs.RoundListLaws.{present_counted}
+use Rattle.layer_api.specs.RoundListLaws.{present_counted, other_value, its_value}
 use Rattle.ordered_rounds.specs.Backing.{is_noted, lists_with, NotesList}
 use Rattle.ordered_rounds.specs.Identifiers.{in_order, passing_ids}
 use Rattle.ordered_rounds.specs.Laws.Ordered.{in_order_all}
@@ -45,29 +41,17 @@ module _ (at : Scope) (w : List Word) (k : ℕ) (v : List ℕ) (none : value_at 
   abbrev now : ℕ → Option (List ℕ)
   now j = value_at (Hear (prop_slot at k) v ∷ w) (prop_slot at j)
 
-  pub its_list : now k ≡ Some v
-  its_list =
-      ap (λ (b : Bool). option_or (there k) (if b then Some v else None)) (slot_itself (prop_slot at k))
-      ∙ ap (λ (o : Option (List ℕ)). option_or o (Some v)) none
-
-  pub other_list : (j : ℕ) → (j ≡ k → ⊥) → now j ≡ there j
-  other_list j other =
-      elim (cases_Bool (is_slot (prop_slot at k) (prop_slot at j))) [
-        | inl is ↦ absurd (other (sym (ap (λ (q : Slot). q.origin) (same_slot (prop_slot at k) (prop_slot at j) is))))
-        | inr isnt ↦ ap (λ (b : Bool). option_or (there j) (if b then Some v else None)) isnt ∙ option_or_none (there j)
-      ]
-
   passes : (t : List ℕ → Bool) (j : ℕ) → is_passed t (now j) ≡ (t v && j == k || is_passed t (there j))
   passes t j =
       elim (cases_eq j k) [
         | inl same ↦
             ap (λ (i : ℕ). is_passed t (now i)) same
-            ∙ (ap (is_passed t) its_list
+            ∙ (ap (is_passed t) (its_value at w k v none)
             ∙ (sym (or_false (t v))
             ∙ (ap (λ (b : Bool). b || false) (sym (and_true (t v)) ∙ ap (λ (b : Bool). t v && b) (sym (eq-eqb j k same)))
             ∙ ap (λ (b : Bool). t v && j == k || b) (sym (ap (λ (i : ℕ). is_passed t (there i)) same ∙ ap (is_passed t) none)))))
         | inr other ↦
-            ap (is_passed t) (other_list j other)
+            ap (is_passed t) (other_value at w k v j other)
             ∙ ap (λ (b : Bool). b || is_passed t (there j)) (sym (ap (λ (b : Bool). t v && b) (ne_eqb j k other) ∙ and_false (t v)))
       ]
 
@@ -101,11 +85,11 @@ module _ (at : Scope) (w : List Word) (k : ℕ) (v : List ℕ) (none : value_at 
       → (x : Id) (j : ℕ) → now j ≡ None → is_noted noted' x j ≡ false
   fresh_more noted noted' notes fresh x j gone =
       elim (cases_eq j k) [
-        | inl same ↦ absurd (let z : Some v ≡ None = sym its_list ∙ (ap now (sym same) ∙ gone) in cc)
+        | inl same ↦ absurd (let z : Some v ≡ None = sym (its_value at w k v none) ∙ (ap now (sym same) ∙ gone) in cc)
         | inr other ↦
             notes x j
             ∙ (ap (λ (b : Bool). b || is_noted noted x j) (ap (λ (b : Bool). has_id (ids_of v) x && b) (ne_eqb j k other) ∙ and_false (has_id (ids_of v) x))
-            ∙ fresh x j (sym (other_list j other) ∙ gone))
+            ∙ fresh x j (sym (other_value at w k v j other) ∙ gone))
       ]
 
 -- ---- one list alone

@@ -3,7 +3,7 @@ use Rattle.std.specs.Prelude.{◌≡◌, ℕ, suc, ◌<◌, ◌≤◌, ◌⊎◌
 use Rattle.std.specs.BTreeMap.{BTreeMap}
 use Rattle.std.specs.Option.{option_or}
 use Rattle.std.proofs.Common.{sym, ◌∙◌, ap, ap₂, subst, inl, inr, arith, append_assoc}
-use Rattle.std.proofs.lemmas.Bool.{and_parts, eqb-true, eq-eqb, le-leb, cases_Bool, both_ways}
+use Rattle.std.proofs.lemmas.Bool.{le-leb}
 use Rattle.std.proofs.lemmas.List.FromFn.{length-map-range_with_len}
 use Rattle.std.proofs.lemmas.List.Sums.{count_by-le-length}
 use Rattle.ritas_base.specs.declared.bytes.Mem.{Mem}
@@ -14,13 +14,11 @@ use Rattle.ritas_base.specs.declared.root_service.RootService.TheVariants.{Direc
 use Rattle.ritas_base.specs.RootServices.{root_number}
 use Rattle.ritas_base.specs.Numbers.{IsSession, wait_of}
 use Rattle.ritas_base.specs.History.{replicas}
-use Rattle.ritas_base.specs.Quorums.{map_same, count_by-map, count_none}
-use Rattle.ritas_base.specs.Shortest.{option_or_none, at_shortest_none, not_there}
-use Rattle.ritas_base.specs.Slots.{within, has_count}
-use Rattle.ritas_base.specs.SlotOrder.{is_slot, same_slot}
+use Rattle.ritas_base.specs.Quorums.{count_by-map, count_none}
+use Rattle.ritas_base.specs.Shortest.{at_shortest_none, not_there}
 use Rattle.frame_codec.specs.Values.{ids_bytes, ids_of, is_passed}
 use Rattle.layer_api.specs.Service.{has_id}
-use Rattle.layer_api.specs.RoundListLaws.{present_counted}
+use Rattle.layer_api.specs.RoundListLaws.{present_counted, prop_slot_is, same_value, same_props}
 use Rattle.layer_api.specs.Words.{Word, Ask, Hear, value_at}
 use Rattle.layer_api.specs.Part.{proposed, newly, newly_asked, passed, part_of, says_in}
 use Rattle.layer_api.specs.PartLaws.{unheard}
@@ -82,33 +80,7 @@ asked_part at c w v quiet none now = ap₂ (λ (d p : List Word). d ++ p) (ap₂
 pub quiet_by : (s : Slot) (v : List ℕ) → s.class ≡ 2 → passed is_inner (Hear s v) ≡ []
 quiet_by s v two = ap (λ (k : ℕ). if not (k == 2) then Hear s v ∷ [] else []) two
 
--- ---- slots
-
-pub prop_slot_is : (at : Scope) (s : Slot) → is_slot_in 0 at.a s ≡ true → s.class ≡ 2 → s ≡ prop_slot at s.origin
-prop_slot_is at s e two =
-    let x = and_parts (within 2 5 s.class) _ e in
-    let y = and_parts (s.a == at.a) _ x.1 in
-    let z = and_parts (if s.class == 2 then s.attempt == 0 else nat_le s.attempt 0) _ y.1 in
-    let u = and_parts (has_count 200 s.class s.bround) _ z.1 in
-    let attempt : (s.attempt == 0) ≡ true = subst (λ (k : ℕ). (if k == 2 then s.attempt == 0 else nat_le s.attempt 0) ≡ true) two z.0 in
-    let bround : (s.bround == 0) ≡ true = subst (λ (k : ℕ). has_count 200 k s.bround ≡ true) two u.0 in
-    let step : (s.step == 0) ≡ true = subst (λ (k : ℕ). has_count 3 k s.step ≡ true) two u.1 in
-    fields two (eqb-true s.a at.a y.0) (eqb-true s.attempt 0 attempt) (eqb-true s.bround 0 bround) (eqb-true s.step 0 step)
-  where
-    fields : s.class ≡ 2 → s.a ≡ at.a → s.attempt ≡ 0 → s.bround ≡ 0 → s.step ≡ 0 → s ≡ prop_slot at s.origin
-    fields c a t b p = rw (c, a, t, b, p) refl
-
--- by a slot that isn't of a list, the lists stay
-pub same_value : (at : Scope) (w : List Word) (s : Slot) (v : List ℕ) → (s.class == 2) ≡ false → (k : ℕ) → value_at (Hear s v ∷ w) (prop_slot at k) ≡ value_at w (prop_slot at k)
-same_value at w s v e k =
-    elim (cases_Bool (is_slot s (prop_slot at k))) [
-      | inl is ↦ absurd (both_ways (s.class == 2) e (eq-eqb s.class 2 (ap (λ (q : Slot). q.class) (same_slot s (prop_slot at k) is))))
-      | inr isnt ↦ ap (λ (b : Bool). option_or (value_at w (prop_slot at k)) (if b then Some v else None)) isnt ∙ option_or_none (value_at w (prop_slot at k))
-    ]
-
-pub same_props : (at : Scope) (w : List Word) (s : Slot) (v : List ℕ) → (s.class == 2) ≡ false → props at (Hear s v ∷ w) ≡ props at w
-same_props at w s v e =
-    map_same (λ k. value_at (Hear s v ∷ w) (prop_slot at k)) (λ k. value_at w (prop_slot at k)) (λ k. same_value at w s v e k) (replicas at.numbers.n)
+-- ---- a slot that isn't of a list
 
 -- so nothing is asked
 pub unasked_by : (at : Scope) (w : List Word) (s : Slot) (v : List ℕ) → (s.class == 2) ≡ false → is_some (inner_asked at (Hear s v ∷ w)) ≡ is_some (inner_asked at w)
@@ -341,7 +313,7 @@ module _ {M : Type 0} (stands : M → Desk → List Word → Type 0) (m : MultiR
       → MayRound (lists m) at w (Hear s v) → s.class ≡ 2 → NotesList x.noted noted (ids_of v) s.origin → count ≡ suc x.count
       → RoundHolds stands m (record x { noted = noted; count = count }) at (Hear s v ∷ w) w
   holds_heard x at w s v noted count h may two notes one =
-      let is : s ≡ prop_slot at.scope s.origin = prop_slot_is at.scope s may.slot two in
+      let is : s ≡ prop_slot at.scope s.origin = prop_slot_is 0 at.scope s may.slot two in
       let none : value_at w (prop_slot at.scope s.origin) ≡ None = ap (value_at w) (sym is) ∙ unheard w s may.first in
       let said : Hear s v ∷ w ≡ Hear (prop_slot at.scope s.origin) v ∷ w = ap (λ (q : Slot). Hear q v ∷ w) is in
       record {

@@ -13,7 +13,7 @@ ghost use Rattle.ritas_core.specs.SlotCast.{CastStands, CastStandsAt, is_cast_li
 use crate::route::Route;
 use layer_api::{Broadcast, Heard};
 use reliable_bcast::{DigestRb, Rb};
-use ritas_base::{FrameVersion, Item, Mem, Mode, Msg, Params, Slot, Tagger};
+use ritas_base::{FrameVersion, Item, Mem, Mode, Msg, Params, RootService, Slot, Tagger};
 use std::alloc::Global;
 
 /// The broadcast of a slot: reliable broadcast with values, or with digests, or the core's other one.
@@ -30,7 +30,7 @@ fn route_of(mode: &Mode, slot: &Slot) -> Route
     ensures { result ≡ route_of mode.now slot.now }
 {
     let is_other = if slot.class == 1 {
-        mode.root == 2
+        matches!(mode.service(), RootService::Echo)
     } else {
         slot.class == 4
     };

@@ -1,6 +1,6 @@
 //! The service of a replica over its broadcasts, the windows, and which items are open.
 
-ghost use Rattle.std.specs.Prelude.{◌≡◌, nat_le, false, Some, OnOk, OnErr, if◌then◌else◌};
+ghost use Rattle.std.specs.Prelude.{◌≡◌, nat_le, not, false, Some, OnOk, OnErr, if◌then◌else◌};
 ghost use Rattle.std.specs.BTreeMap.{get};
 ghost use Rattle.ritas_base.specs.declared.slot.Slot.{Slot};
 ghost use Rattle.ritas_base.specs.SlotOrder.{slot_cmp, is_slot};
@@ -18,7 +18,7 @@ use frame_codec::input_fault;
 use instance_tree::Tree;
 use layer_api::{Broadcast, COMMAND_WINDOW, Service};
 use ritas_base::{
-    Bytes, Coin, Item, Kind, Mem, Mode, Msg, NUMBER_LIMIT, Params, Say, Slot, Tagger,
+    Bytes, Coin, Item, Kind, Mem, Mode, Msg, NUMBER_LIMIT, Params, RootService, Say, Slot, Tagger,
 };
 use std::alloc::Global;
 use std::collections::BTreeMap;
@@ -37,6 +37,20 @@ pub struct Layers<S: Service, E: Broadcast, C: Coin + Drop, T: Tagger + Drop> {
     pub(crate) outputs: BTreeMap<Slot, Bytes>,
 }
 
+/// Whether what a slot delivered is kept: in root services 1 and 2, which deliver commands, each by itself.
+fn keeps_outputs(mode: &Mode) -> bool
+    ensures { result ≡ not (nat_le 3 mode.now.root) }
+{
+    match mode.service() {
+        RootService::Reliable | RootService::Echo => true,
+        RootService::Binary
+        | RootService::MultiValued
+        | RootService::Vector
+        | RootService::Atomic
+        | RootService::Direct => false,
+    }
+}
+
 /// In root services 1 and 2 keeps what a slot delivered, since its broadcast is dropped once the slot is past.
 fn keep_output(
     mode: &Mode,
@@ -48,7 +62,7 @@ fn keep_output(
         → (s : Slot) → get slot_cmp outputs.new s ≡ (if is_slot slot s then Some value else get slot_cmp outputs.old s)) }
     ensures err { OnErr result ((s : Slot) → get slot_cmp outputs.new s ≡ get slot_cmp outputs.old s) }
 {
-    if mode.root < 3 {
+    if keeps_outputs(mode) {
         outputs.insert(slot, value)?;
     }
     Ok(())
@@ -204,14 +218,14 @@ impl<S: Service, E: Broadcast, C: Coin + Drop, T: Tagger + Drop> Layers<S, E, C,
     pub(crate) fn hides(&self, slot: &Slot) -> bool
         ensures { result ≡ hides_shown (S.shown self.now.service) self.now.params.n self.now.mode.root slot.now }
     {
-        self.mode.root >= 3 && self.is_past(slot)
+        !keeps_outputs(&self.mode) && self.is_past(slot)
     }
 
     /// What a slot delivered, as it was kept by itself, or as its broadcast has it.
     pub(crate) fn delivered(&self, slot: &Slot) -> Option<&[u8]>
         ensures { option_copied result ≡ layers_out (shown_by_cast E.shown) self.now slot.now }
     {
-        if self.mode.root < 3 {
+        if keeps_outputs(&self.mode) {
             match self.outputs.get(slot) {
                 Some(value) => Some(value.as_slice()),
                 None => None,

@@ -13,6 +13,7 @@ use Rattle.layer_api.specs.Words.{Word, Ask, Hear}
 use Rattle.layer_api.specs.Calls.{IsCoin}
 use Rattle.layer_api.specs.Part.{proposed, newly, passed, says_in}
 use Rattle.layer_api.specs.FedLaws.{unasked}
+use Rattle.layer_api.specs.RoundListLaws.{same_props}
 use Rattle.layer_api.specs.Multi.{Desk, MultiRules, MultiLaws, MayMulti}
 use Rattle.layer_api.specs.MultiCalls.{MultiShown, MultiHears}
 use Rattle.layer_api.specs.Vectors.{MayVectorHear, AreVector}
@@ -26,7 +27,7 @@ use Rattle.vector_consensus.specs.Holding.{AttemptsHold, AttemptsHeard, StartsAt
 use Rattle.vector_consensus.specs.Opening.{attempt_few}
 use Rattle.vector_consensus.specs.declared.part.Part.{Part}
 use Rattle.vector_consensus.specs.declared.going.Progress.{Progress}
-use Rattle.vector_consensus.proofs.Proposed.{same_props, is_proposal}
+use Rattle.vector_consensus.proofs.Proposed.{is_proposal}
 use Rattle.vector_consensus.proofs.Turns.{heard, quiet, alone, say_order, words_begun}
 use Rattle.vector_consensus.proofs.Reaching.{Shows, has_vectors}
 
