@@ -1,4 +1,4 @@
-"""A cluster of correct replicas of root service 6, whose inputs, turns and passed frames make a schedule in sweeps.
+"""A cluster of correct replicas of root service 6 or 7, whose inputs, turns and passed frames make a schedule in sweeps.
 
 It follows the rules of docs/PROTOCOL.md on plain sets and lists, without tags: what a schedule says of a frame is its sender, its
 receiver and its number. `Cluster.sweep` makes the events of sweeps until nothing is left, and `Replica.rows` are those of a replica's command log
@@ -8,6 +8,7 @@ HASHES and of columns.
 import hashlib
 import hmac
 import struct
+from collections import Counter
 from functools import lru_cache
 
 INIT, ECHO, READY, SEND, HASHES, COLUMN = range(1, 7)
@@ -205,17 +206,74 @@ class Vector:
     def decision(self):
         return next((t.value for t in self.tries if t.decision()[1] is not None), None)
 
+    def wanted(self):
+        """What the round wants in the log, once it is decided."""
+        vector, lists, at = self.decision(), [], 4
+        if vector is None:
+            return None
+        while at < len(vector):
+            length = struct.unpack(">H", vector[at:at + 2])[0]
+            lists.append(vector[at + 2:at + 2 + length])
+            at += 2 + length
+        return in_enough(self.home.f, lists)
+
     def opens(self, slot):
         if slot[0] == 2:
             return self.proposed
         return slot[2] < len(self.tries) and self.tries[slot[2]].opens(slot)
 
 
-class Atomic:
-    """The service of root service 6."""
+class Lists:
+    """A round of root service 7: lists of identifiers, and multi-valued consensus on those that f + 1 of them have."""
 
-    def __init__(self, home):
-        self.home = home
+    def __init__(self, home, a):
+        self.home, self.a = home, a
+        self.lists, self.inner = {}, Multi(home, a, 0)
+        self.proposed = False
+
+    def propose(self, value, says):
+        self.proposed = True
+        says.append(((2, self.a, 0, 0, 0, self.home.me), value))
+        self.go(says)
+
+    def heard(self, slot, value, says):
+        if slot[0] == 2:
+            self.lists[slot[5]] = value
+            self.go(says)
+        else:
+            self.inner.heard(slot, value, says)
+
+    def go(self, says):
+        if self.proposed and not self.inner.proposed and len(self.lists) >= self.home.n - self.home.f:
+            self.inner.propose(text_of(in_enough(self.home.f, self.lists.values())[:MOST_IDS]), says)
+
+    def wanted(self):
+        is_decided, value = self.inner.decision()
+        return sorted(identifiers(value or b"")) if is_decided else None
+
+    def opens(self, slot):
+        return self.proposed if slot[0] == 2 else self.inner.opens(slot)
+
+
+def identifiers(text):
+    return [(text[i], struct.unpack(">I", text[i + 1:i + 5])[0]) for i in range(0, len(text), 5)]
+
+
+def text_of(ids):
+    return b"".join(bytes([o]) + struct.pack(">I", k) for o, k in ids)
+
+
+def in_enough(f, lists):
+    """The identifiers that stand in f + 1 of these lists."""
+    counts = Counter(x for text in lists for x in identifiers(text))
+    return sorted(x for x, count in counts.items() if count >= f + 1)
+
+
+class Atomic:
+    """The service of root service 6, by vectors, and of root service 7, by lists."""
+
+    def __init__(self, home, round_of):
+        self.home, self.round_of = home, round_of
         self.number = 0
         self.commands, self.pending, self.log = {}, set(), []
         self.bases = [0] * home.n
@@ -238,9 +296,8 @@ class Atomic:
 
     def go(self, says):
         now = self.rounds.get(self.completed)
-        vector = now.decision() if now else None
-        if vector is not None:
-            ids = self.wanted(vector)
+        ids = now.wanted() if now else None
+        if ids is not None:
             if all(x in self.commands for x in ids):
                 for x in ids:
                     if x not in self.logged:
@@ -257,18 +314,8 @@ class Atomic:
             share, taken = MOST_IDS // self.home.n, []
             for o in range(self.home.n):
                 taken += sorted(x for x in self.pending if x[0] == o)[:share]
-            self.rounds[self.completed] = Vector(self.home, self.completed)
-            self.rounds[self.completed].propose(b"".join(bytes([o]) + struct.pack(">I", k) for o, k in taken), says)
-
-    def wanted(self, vector):
-        counts, at = {}, 4
-        while at < len(vector):
-            length = struct.unpack(">H", vector[at:at + 2])[0]
-            for i in range(at + 2, at + 2 + length, 5):
-                x = (vector[i], struct.unpack(">I", vector[i + 1:i + 5])[0])
-                counts[x] = counts.get(x, 0) + 1
-            at += 2 + length
-        return sorted(x for x, c in counts.items() if c >= self.home.f + 1)
+            self.rounds[self.completed] = self.round_of(self.home, self.completed)
+            self.rounds[self.completed].propose(text_of(taken), says)
 
     def opens(self, slot):
         return slot[0] == 1 or slot[1] in self.rounds and self.rounds[slot[1]].opens(slot)
@@ -292,11 +339,11 @@ class Cast:
 
 
 class Replica:
-    def __init__(self, n, f, me, echo, master=bytes(32), session=0):
+    def __init__(self, n, f, me, echo, master=bytes(32), session=0, root=6):
         self.n, self.f, self.me, self.echo = n, f, me, echo
         self.session = struct.pack(">Q", session)
         self.coin = hmac.digest(master, b"\x53" + self.session + bytes([me]), "sha256")
-        self.service = Atomic(self)
+        self.service = Atomic(self, Lists if root == 7 else Vector)
         self.casts = {}
         self.inbox, self.held = [], [[] for _ in range(n)]
         self.made = [[] for _ in range(n)]
@@ -401,12 +448,12 @@ class Replica:
 class Cluster:
     """Replicas that are all correct, and the events so far, as the bytes of a schedule file."""
 
-    def __init__(self, n, f, echo):
+    def __init__(self, n, f, echo, root=6):
         self.n, self.f = n, f
-        self.replicas = [Replica(n, f, i, echo) for i in range(n)]
+        self.replicas = [Replica(n, f, i, echo, root=root) for i in range(n)]
         self.passed = [[0] * n for _ in range(n)]
         self.file = bytearray(
-            b"RITS\x01" + bytes(8) + bytes([n, f, 6, 1 if echo else 2]) + struct.pack(">I", 2**n - 1) + b"\x00" + bytes(32))
+            b"RITS\x01" + bytes(8) + bytes([n, f, root, 1 if echo else 2]) + struct.pack(">I", 2**n - 1) + b"\x00" + bytes(32))
         self.events = 0
         self.frames = {}
 
@@ -460,9 +507,9 @@ class Cluster:
         return bytes(self.file) + b"\x00"
 
 
-def cluster_events(n: int, f: int, echo: bool):
-    """A cluster of root service 6 that appends one command."""
-    cluster = Cluster(n, f, echo)
+def cluster_events(n: int, f: int, echo: bool, root: int = 6):
+    """A cluster of this root service that is given one command."""
+    cluster = Cluster(n, f, echo, root)
     cluster.command(0, 0, 0, b"")
     cluster.sweep()
     texts = [(1, bytes(length)) for length, count in cluster.lengths().items() for _ in range(count)]

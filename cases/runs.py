@@ -26,8 +26,8 @@ TOTALS = {"resends": "resends", "ACKs": "acks", "AGAINs": "agains", "bytes": "by
 class Routed(serving.Session):
     """A session whose nodes find those of lesser numbers, which they connect with, at ports of a proxy."""
 
-    def __init__(self, vect: str, version: int, journal: bool):
-        super().__init__(N, F, vect, version, journal)
+    def __init__(self, vect: str, version: int, journal: bool, root: int):
+        super().__init__(N, F, vect, version, journal, root)
         self.doors, self.taken = {}, {*self.peers, *self.clients}
 
     def more_ports(self, count: int) -> list:
@@ -48,10 +48,10 @@ class Run:
 
     LOAD = Load
 
-    def __init__(self, name: str, options, count: int = N, vect: str = "echo", version: int = 1, journal: bool = False):
+    def __init__(self, name: str, options, count: int = N, vect: str = "echo", version: int = 1, journal: bool = False, root: int = 6):
         self.name, self.lot = name, random.Random(f"{options.seed} {name}")
         self.folder = tempfile.mkdtemp(prefix=f"ritas-{name}-", dir=serving.MEMORY if journal else None)
-        self.session = Routed(vect, version, journal)
+        self.session = Routed(vect, version, journal, root)
         self.sights = Sights(self.session)
         self.proxy = Proxy(self.sights, self.lot)
         self.correct, self.nodes, self.faces = list(range(count)), [], []
@@ -219,6 +219,7 @@ def options_of(names, description: str, of_sessions: bool = False) -> argparse.N
     if of_sessions:
         parser.add_argument("--vect", choices=("echo", "reliable"), help="how VECTs go in every session, in place of what each scenario has")
         parser.add_argument("--version", type=int, choices=(1, 2), help="of the frames of every session")
+        parser.add_argument("--root", type=int, choices=(6, 7), help="the root service of every session")
     parser.add_argument("scenarios", nargs="*", metavar="SCENARIO", help=", ".join(names))
     options = parser.parse_args()
     if unknown := set(options.scenarios) - set(names):

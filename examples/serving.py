@@ -62,14 +62,15 @@ def address(port: int) -> str:
 
 
 class Session:
-    """The numbers, the ports and the keys of a session. Each replica has a row of keys and the key of its coin, as hexadecimal digits.
+    """The numbers, the ports and the keys of a session. Each replica has a row of keys and the key of its coin, as hexadecimal digits. Commands are
+    ordered by vector consensus, in root service 6, or straight by multi-valued consensus, in root service 7.
 
     A command gets a row once f + 1 different replicas have submitted it, so a client hands it to f + 1 correct nodes at least. Where its nodes have
     journals, each has a working folder of its own, and one that was killed is started again there.
     """
 
-    def __init__(self, n: int, f: int, vect: str = "echo", version: int = 1, journal: bool = False):
-        self.n, self.f, self.vect, self.version, self.journal = n, f, vect, version, journal
+    def __init__(self, n: int, f: int, vect: str = "echo", version: int = 1, journal: bool = False, root: int = 6):
+        self.n, self.f, self.vect, self.version, self.journal, self.root = n, f, vect, version, journal, root
         self.number = random.getrandbits(64)
         self.master = os.urandom(KEY_DIGITS // 2).hex()
         ports = free_ports(2 * n)
@@ -93,7 +94,7 @@ class Session:
         keys = f"me {me}", f"row {self.rows[me]}", f"coin {self.coins[me]}"
         places = *self.peer_lines(), f"client {address(self.clients[me])}"
         last = ("journal yes",) if self.journal else ()
-        return config(*self.head(), "root 6", f"vect {self.vect}", *keys, *places, f"limit {2**64 - 1}", f"until {until}", *last)
+        return config(*self.head(), f"root {self.root}", f"vect {self.vect}", *keys, *places, f"limit {2**64 - 1}", f"until {until}", *last)
 
     def submit_config(self, client: int, request: int, payload: bytes) -> bytes:
         places = [f"peer {address(port)}" for port in self.clients]

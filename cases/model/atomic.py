@@ -1,16 +1,16 @@
-"""Atomic broadcast: rounds of vector consensus on lists of identifiers, and the log of these.
+"""Atomic broadcast: rounds of consensus on lists of identifiers, and the log of these.
 
 Correia, Neves, Veríssimo, From Consensus to Atomic Broadcast (2006), in the form of Moniz, Neves, Correia, Veríssimo, RITAS (IEEE TDSC 2011). The
-f + 1 lists that an identifier has to stand in are this repository's own choice.
+f + 1 lists that an identifier has to stand in, and the rounds straight on multi-valued consensus, are this repository's own choice.
 """
 from __future__ import annotations
 
-from collections import Counter
 from typing import Optional
 
-from .bodies import MOST_IDENTIFIERS, Identifier, read_identifiers, read_vector, write_identifiers
+from .bodies import MOST_IDENTIFIERS, Identifier, write_identifiers
+from .direct import Lists
 from .keys import Keys
-from .session import COMMAND, NUMBERS, Say, Session, Slot
+from .session import COMMAND, DIRECT, NUMBERS, Say, Session, Slot
 from .vector import Vector
 
 
@@ -23,7 +23,7 @@ class Atomic:
         self.logged: set[Identifier] = set()
         self.bases = [0] * session.n
         self.completed = 0
-        self.rounds: list[Vector] = []  # those that began
+        self.rounds: list[Vector | Lists] = []  # those that began
 
     def is_open(self, slot: Slot) -> bool:
         return slot.number < len(self.rounds) and self.rounds[slot.number].is_open(slot)
@@ -46,19 +46,12 @@ class Atomic:
 
     def complete_round(self) -> bool:
         """Completes the current round where it may be; the answer is whether it was."""
-        vector = self.rounds[self.completed].decision if len(self.rounds) > self.completed else None
-        if vector is None:
-            return False
-        wanted = self.wanted(vector)
-        if not all(identifier in self.commands for identifier in wanted):
+        wanted = self.rounds[self.completed].wanted() if len(self.rounds) > self.completed else None
+        if wanted is None or not all(identifier in self.commands for identifier in wanted):
             return False
         self.append([identifier for identifier in wanted if identifier not in self.logged])
         self.completed += 1
         return True
-
-    def wanted(self, vector: bytes) -> list[Identifier]:
-        counts = Counter(identifier for entry in read_vector(vector).values() for identifier in read_identifiers(entry))
-        return sorted(identifier for identifier, count in counts.items() if count >= self.session.f + 1)
 
     def append(self, identifiers: list[Identifier]) -> None:
         self.log += identifiers
@@ -72,7 +65,7 @@ class Atomic:
         return len(self.rounds) == self.completed < NUMBERS and len(self.pending) > 0
 
     def begin(self) -> list[Say]:
-        self.rounds.append(Vector(self.session, self.keys, self.completed))
+        self.rounds.append((Lists if self.session.root == DIRECT else Vector)(self.session, self.keys, self.completed))
         return self.rounds[-1].propose(write_identifiers(self.proposal()))
 
     def proposal(self) -> list[Identifier]:

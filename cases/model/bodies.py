@@ -5,8 +5,8 @@ import struct
 from functools import lru_cache
 from typing import NamedTuple, Optional
 
-from .session import (ATOMIC, BINARY, COLUMN, COMMAND, ECHO, ECHO_BROADCAST, HASHES, INIT, MOST_BINARY_ROUNDS, MULTIVALUED, NUMBERS, PROPOSAL, READY,
-                      RELIABLE, SEND, STEP, VALUE, VECT, VECTOR, VECTOR_PROPOSAL, WANT, Session, Slot, mask_of, members)
+from .session import (ATOMIC, BINARY, COLUMN, COMMAND, DIRECT, ECHO, ECHO_BROADCAST, HASHES, INIT, MOST_BINARY_ROUNDS, MULTIVALUED, NUMBERS,
+                      ORDERED, PROPOSAL, READY, RELIABLE, SEND, STEP, VALUE, VECT, VECTOR, VECTOR_PROPOSAL, WANT, Session, Slot, mask_of, members)
 
 SLOT_END = 10  # a payload begins behind the kind and the slot
 DIGEST = 32
@@ -15,7 +15,7 @@ IDENTIFIER, MOST_IDENTIFIERS = 5, 64
 
 CLASSES = {
     RELIABLE: (COMMAND,), ECHO_BROADCAST: (COMMAND,), BINARY: (STEP,), MULTIVALUED: (PROPOSAL, VECT, STEP),
-    VECTOR: (VECTOR_PROPOSAL, PROPOSAL, VECT, STEP), ATOMIC: (COMMAND, VECTOR_PROPOSAL, PROPOSAL, VECT, STEP),
+    VECTOR: (VECTOR_PROPOSAL, PROPOSAL, VECT, STEP), **dict.fromkeys(ORDERED, (COMMAND, VECTOR_PROPOSAL, PROPOSAL, VECT, STEP)),
 }
 RELIABLE_KINDS = {1: (INIT, ECHO, READY), 2: (INIT, ECHO, READY, WANT, VALUE)}
 ECHO_KINDS = (SEND, HASHES, COLUMN)
@@ -81,7 +81,7 @@ def is_column(session: Session, payload: bytes) -> bool:
 
 def is_value(session: Session, slot: Slot, value: bytes) -> bool:
     if slot.class_ == COMMAND:
-        return (LEAST_COMMAND if session.root == ATOMIC else 1) <= len(value) <= MOST_VALUE
+        return (LEAST_COMMAND if session.root in ORDERED else 1) <= len(value) <= MOST_VALUE
     if slot.class_ == VECTOR_PROPOSAL:
         return is_vector_proposal(session, value)
     if slot.class_ == PROPOSAL:
@@ -94,17 +94,18 @@ def is_value(session: Session, slot: Slot, value: bytes) -> bool:
 def is_vector_proposal(session: Session, value: bytes) -> bool:
     if session.root == VECTOR:
         return 1 <= len(value) <= MOST_VECTOR_PROPOSAL
-    return is_identifier_list(session, value)
+    return is_identifier_list(session, value, 1, MOST_IDENTIFIERS // session.n)
 
 
-def is_identifier_list(session: Session, value: bytes) -> bool:
-    if len(value) % IDENTIFIER != 0 or not 1 <= len(value) // IDENTIFIER <= MOST_IDENTIFIERS:
+def is_identifier_list(session: Session, value: bytes, least: int, share: int) -> bool:
+    """Whether it has so many identifiers at least, and so many of one origin at most."""
+    if len(value) % IDENTIFIER != 0 or not least <= len(value) // IDENTIFIER <= MOST_IDENTIFIERS:
         return False
     found = read_identifiers(value)
     counts = [0] * 256
     for origin, number in found:
         counts[origin] += 1
-        if origin >= session.n or number >= NUMBERS or counts[origin] > MOST_IDENTIFIERS // session.n:
+        if origin >= session.n or number >= NUMBERS or counts[origin] > share:
             return False
     return all(x < y for x, y in zip(found, found[1:]))
 
@@ -112,6 +113,8 @@ def is_identifier_list(session: Session, value: bytes) -> bool:
 def is_proposal(session: Session, value: bytes) -> bool:
     if session.root == MULTIVALUED:
         return 1 <= len(value) <= MOST_VALUE
+    if session.root == DIRECT:
+        return is_identifier_list(session, value, 0, MOST_IDENTIFIERS)
     return is_vector(session, value)
 
 
@@ -145,7 +148,7 @@ def is_input(session: Session, value: bytes) -> bool:
         return len(value) == 1 and value[0] <= 1
     if session.root == VECTOR:
         return 1 <= len(value) <= MOST_VECTOR_PROPOSAL
-    return (LEAST_COMMAND if session.root == ATOMIC else 1) <= len(value) <= MOST_VALUE
+    return (LEAST_COMMAND if session.root in ORDERED else 1) <= len(value) <= MOST_VALUE
 
 
 def write_identifiers(identifiers: list[Identifier]) -> bytes:

@@ -9,7 +9,7 @@ from .configuration import Configuration
 from .keys import deal
 from .replica import Replica
 from .schedule import Header
-from .session import ATOMIC, BINARY, INIT, STEP, Message, Session, mask_of
+from .session import BINARY, INIT, ORDERED, STEP, Message, Session, mask_of
 from .world import World
 
 CORRECT, FLIPPING, FACE_A, FACE_B = "", "flip", "A", "B"  # what a player is
@@ -83,7 +83,7 @@ class Plan:
         m = len(self.correct)
         if self.session.has_commands:
             for k in range(self.commands):
-                for t in range(min(self.copies, m) if self.session.root == ATOMIC else 1):
+                for t in range(min(self.copies, m) if self.session.root in ORDERED else 1):
                     yield players[(k + t) % m], self.input(k, k % m, k)
         for player in players:
             if player.face in (FACE_A, FACE_B):
@@ -95,5 +95,5 @@ class Plan:
     def input(self, value: int, client: int, request: int) -> bytes:
         if self.session.root == BINARY:
             return bytes([value % 2])
-        command = struct.pack(">II", client, request) if self.session.root == ATOMIC else b""
+        command = struct.pack(">II", client, request) if self.session.root in ORDERED else b""
         return command + struct.pack(">I", value)

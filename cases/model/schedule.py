@@ -6,7 +6,7 @@ from dataclasses import dataclass
 from typing import Optional
 
 from .keys import Keys, deal
-from .session import ATOMIC, MOST_REPLICAS, Session, members
+from .session import DIRECT, MOST_REPLICAS, Session, members
 from .world import Event, Frame, Input, Pass, Sealed, Turn
 
 MOST_BYTES = 67_108_864
@@ -72,7 +72,7 @@ class Reader:
         number = self.number(8)
         n = self.header_field(1, lambda n: 1 <= n <= MOST_REPLICAS)
         f = self.header_field(1, lambda f: n >= 3 * f + 1)
-        root = self.header_field(1, lambda root: 1 <= root <= ATOMIC)
+        root = self.header_field(1, lambda root: 1 <= root <= DIRECT)
         vect = self.header_field(1, lambda vect: vect in (1, 2))
         correct = self.header_field(4, lambda mask: mask < 1 << n)
         session = Session(number, n, f, root, vect == 1, version)

@@ -69,7 +69,7 @@ class Broadcasts(Numbered):
 
 
 class AtomicBroadcast(Numbered):
-    """Root service 6: a number is finished where it is in the log of identifiers."""
+    """Root services 6 and 7: a number is finished where it is in the log of identifiers."""
 
     def __init__(self, session: Session, keys: Keys) -> None:
         super().__init__(keys)

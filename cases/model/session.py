@@ -16,7 +16,8 @@ MOST_BINARY_ROUNDS = 200
 COMMAND_WINDOW = 64
 ROUNDS_BEHIND, ROUNDS_AHEAD = 2, 4
 
-RELIABLE, ECHO_BROADCAST, BINARY, MULTIVALUED, VECTOR, ATOMIC = range(1, 7)  # root services
+RELIABLE, ECHO_BROADCAST, BINARY, MULTIVALUED, VECTOR, ATOMIC, DIRECT = range(1, 8)  # root services
+ORDERED = ATOMIC, DIRECT  # those that put commands in one order
 COMMAND, VECTOR_PROPOSAL, PROPOSAL, VECT, STEP = range(1, 6)  # classes of slots
 INIT, ECHO, READY, SEND, HASHES, COLUMN, WANT, VALUE = range(1, 9)  # kinds of messages
 
@@ -60,7 +61,7 @@ class Session:
     @property
     def has_commands(self) -> bool:
         """Whether an input is a command, of which there may be many."""
-        return self.root in (RELIABLE, ECHO_BROADCAST, ATOMIC)
+        return self.root in (RELIABLE, ECHO_BROADCAST, *ORDERED)
 
     def goes_by_echo(self, slot: Slot) -> bool:
         """Whether the slot's broadcast is echo broadcast."""

@@ -6,7 +6,8 @@ from __future__ import annotations
 
 from typing import Optional
 
-from .bodies import write_vector
+from .bodies import Identifier, read_vector, write_vector
+from .direct import in_enough
 from .keys import Keys
 from .multivalued import Decision, Multivalued
 from .session import VECTOR_PROPOSAL, Say, Session, Slot
@@ -54,6 +55,10 @@ class Vector:
     @property
     def decision(self) -> Optional[bytes]:
         return None if self.decided_try is None else self.tries[self.decided_try].decision.value
+
+    def wanted(self) -> Optional[list[Identifier]]:
+        """In root service 6 the identifiers that the vector wants in the log."""
+        return None if self.decision is None else in_enough(self.session, read_vector(self.decision).values())
 
     @property
     def is_spent(self) -> bool:

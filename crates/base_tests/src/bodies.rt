@@ -33,10 +33,13 @@ fn comes_back(alloc: Global, root: u8, version: FrameVersion, bytes: &[u8]) -> O
 // Of each form of a payload: a value, a bit, a list of identifiers, and a digest.
 #[test]
 fn bodies_that_are_items(rt: HostRuntime) {
-    let cases: [(u8, FrameVersion, &[u8]); 4] = [
+    let cases: [(u8, FrameVersion, &[u8]); 7] = [
         (1, FrameVersion::One, b"\x01\x01\0\0\0\0\0\0\0\0a"),
         (3, FrameVersion::One, b"\x01\x05\0\0\0\0\0\x01\x03\0\x02"),
         (6, FrameVersion::One, b"\x01\x02\0\0\0\0\0\0\0\0\0\0\0\0\0"),
+        (7, FrameVersion::One, b"\x01\x02\0\0\0\0\0\0\0\0\0\0\0\0\0"),
+        (7, FrameVersion::One, b"\x01\x03\0\0\0\0\0\0\0\0"),
+        (7, FrameVersion::One, b"\x01\x03\0\0\0\0\0\0\0\0\0\0\0\0\0"),
         (1, FrameVersion::Two, b"\x08\x01\0\0\0\0\0\0\0\0a"),
     ];
     for (root, version, bytes) in cases {

@@ -11,6 +11,8 @@ use Rattle.hex.specs.Hex.{decode_of, decode_sized, decode_pairs}
 use Rattle.hex.proofs.HexLemmas.{decode_of-ok, decode_sized-twice}
 use Rattle.ritas_base.specs.Limits.{longest_payload}
 use Rattle.ritas_base.specs.Numbers.{Numbers}
+use Rattle.ritas_base.specs.RootServices.{most_root}
+use Rattle.ritas_base.specs.Slots.{is_atomic}
 use Rattle.ritas_base.specs.declared.mode.FrameVersion.{FrameVersion}
 use Rattle.ritas_base.specs.declared.mode.FrameVersion.TheVariants.{One, Two}
 use Rattle.cluster_config.specs.declared.requests.Request.{Request}
@@ -233,8 +235,11 @@ journal_says said x text (inl is) = (false, is.1)
 journal_says said x text (inr is) = (is.0, is.3.1)
 
 -- ---- columns
-sixth : (text : List ℕ) (root : ℕ) → number_in 6 6 text ≡ Some root → root ≡ 6
-sixth text root e = let range = number_range 6 6 text root e in omega (arith, range.0, range.1)
+atomic_within : (root : ℕ) → 6 ≤ root → root ≤ 7 → is_atomic root ≡ true
+atomic_within root low high = grind arith
+
+orders : (text : List ℕ) (root : ℕ) → number_in 6 most_root text ≡ Some root → is_atomic root ≡ true
+orders text root e = let range = number_range 6 most_root text root e in atomic_within root range.0 range.1
 
 node_fits : (text : List ℕ) (x : NodeText) → IsText node_column x text → FitsNode x
 unfolding node_column session_lines numbers_lines
@@ -250,7 +255,7 @@ node_fits text x is =
     let some = some_replica _ p.2.value p.0 p.2.reads in
     let at = (number_range 0 (p.0.n - 1) me.2.value me.0 me.2.reads).1 in
     subst (λ (y : NodeText). FitsNode y) end.1 (record {
-      root = sixth root.2.value root.0 root.2.reads;
+      root = orders root.2.value root.0 root.2.reads;
       me = omega (arith, some, at);
       peers = peers.many;
       rest = row_rest p.0.n row.2.value row.0 row.2.reads;
@@ -278,7 +283,7 @@ cluster_fits text x is =
     let requests = lines_say_some _ _ _ _ _ x until.1 until.3 in
     let some = some_replica _ p.2.value p.0 p.2.reads in
     subst (λ (y : ClusterText). FitsCluster y) requests.is (record {
-      root = sixth root.2.value root.0 root.2.reads;
+      root = orders root.2.value root.0 root.2.reads;
       peers = peers.many;
       many = requests.many;
       short = all_short p.0.n requests.values requests.said;

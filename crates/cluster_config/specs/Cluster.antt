@@ -1,6 +1,7 @@
 -- The configuration of all replicas of a session: its lines, in their order.
 use Rattle.std.specs.Prelude.{ℕ, List, codes, refl}
 use Rattle.ritas_base.specs.Numbers.{Numbers}
+use Rattle.ritas_base.specs.RootServices.{most_root}
 use Rattle.ritas_base.specs.declared.mode.FrameVersion.{FrameVersion}
 use Rattle.ritas_base.specs.declared.mode.Vect.{Vect}
 use Rattle.cluster_config.specs.declared.cluster.ClusterConfig.{ClusterConfig}
@@ -45,7 +46,7 @@ unfoldable pub cluster_column : Column ClusterText
 cluster_column =
     session_lines (λ version session.
     numbers_lines (λ p.
-    Line (codes "root") refl (number_in 6 6) (λ root.
+    Line (codes "root") refl (number_in 6 most_root) (λ root.
     Line (codes "vect") refl vect_in (λ vect.
     Line (codes "master") refl key_in (λ master.
     lines_of (codes "peer") refl address_in p.n (λ peers.

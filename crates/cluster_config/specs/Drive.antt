@@ -1,6 +1,7 @@
 -- The configuration of a schedule that is to be made: its lines, in their order.
 use Rattle.std.specs.Prelude.{ℕ, List, codes, refl}
 use Rattle.ritas_base.specs.Numbers.{Numbers}
+use Rattle.ritas_base.specs.RootServices.{most_root}
 use Rattle.ritas_base.specs.declared.mode.FrameVersion.{FrameVersion}
 use Rattle.ritas_base.specs.declared.mode.Vect.{Vect}
 use Rattle.ritas_base.specs.declared.plan.Order.{Order}
@@ -44,7 +45,7 @@ unfoldable pub drive_column : Column Planned
 drive_column =
     session_lines (λ version session.
     numbers_lines (λ p.
-    Line (codes "root") refl (number_in 1 6) (λ root.
+    Line (codes "root") refl (number_in 1 most_root) (λ root.
     Line (codes "vect") refl vect_in (λ vect.
     Line (codes "master") refl key_in (λ master.
     Line (codes "order") refl order_in (λ order.

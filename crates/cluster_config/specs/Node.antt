@@ -1,6 +1,7 @@
 -- The configuration of a replica: its lines, in their order.
 use Rattle.std.specs.Prelude.{ℕ, ◌-◌, Bool, List, codes, refl}
 use Rattle.ritas_base.specs.Numbers.{Numbers}
+use Rattle.ritas_base.specs.RootServices.{most_root}
 use Rattle.ritas_base.specs.declared.mode.FrameVersion.{FrameVersion}
 use Rattle.ritas_base.specs.declared.mode.Vect.{Vect}
 use Rattle.cluster_config.specs.declared.node.NodeConfig.{NodeConfig}
@@ -46,7 +47,7 @@ unfoldable pub node_column : Column NodeText
 node_column =
     session_lines (λ version session.
     numbers_lines (λ p.
-    Line (codes "root") refl (number_in 6 6) (λ root.
+    Line (codes "root") refl (number_in 6 most_root) (λ root.
     Line (codes "vect") refl vect_in (λ vect.
     Line (codes "me") refl (number_in 0 (p.n - 1)) (λ me.
     Line (codes "row") refl (row_in p.n) (λ row.

@@ -1,7 +1,8 @@
 -- What the configurations that are read keep to, beside their lines.
-use Rattle.std.specs.Prelude.{◌≡◌, ◌↔◌, ℕ, List, ◌++◌, codes, ◌<◌, ◌≤◌, ◌-◌, length, drop, replicate}
+use Rattle.std.specs.Prelude.{◌≡◌, ◌↔◌, ℕ, true, List, ◌++◌, codes, ◌<◌, ◌≤◌, ◌-◌, length, drop, replicate}
 use Rattle.std.specs.List.{AllByRecursion}
 use Rattle.ritas_base.specs.Limits.{longest_payload}
+use Rattle.ritas_base.specs.Slots.{is_atomic}
 use Rattle.ritas_base.specs.declared.mode.FrameVersion.{FrameVersion}
 use Rattle.ritas_base.specs.declared.mode.FrameVersion.TheVariants.{One, Two}
 use Rattle.cluster_config.specs.declared.submit.SubmitConfig.{SubmitConfig}
@@ -24,10 +25,10 @@ pub record FitsPlan (x : Planned) : Type 0 where
   pub least : 1 ≤ x.copies
   pub most : x.copies ≤ x.p.n
 
--- the configuration of a replica: its root service is the sixth, its number is below n, there is a peer for each of n replicas,
+-- the configuration of a replica: its root service orders commands, its number is below n, there is a peer for each of n replicas,
 -- and the places of its keys from n on are zero
 pub record FitsNode (x : NodeText) : Type 0 where
-  pub root : x.root ≡ 6
+  pub root : is_atomic x.root ≡ true
   pub me : x.me < x.p.n
   pub peers : length x.peers ≡ x.p.n
   pub rest : drop x.p.n x.key_row ≡ replicate (31 - x.p.n) (replicate 32 0)
@@ -36,7 +37,7 @@ pub record FitsNode (x : NodeText) : Type 0 where
 -- that of all replicas: the same of the root service and the peers, and there are at most `most_requests` requests, each
 -- of at most `longest_payload` bytes and for one of the n replicas
 pub record FitsCluster (x : ClusterText) : Type 0 where
-  pub root : x.root ≡ 6
+  pub root : is_atomic x.root ≡ true
   pub peers : length x.peers ≡ x.p.n
   pub many : length x.requests ≤ most_requests
   pub short : AllByRecursion (λ r. length r.payload ≤ longest_payload) x.requests

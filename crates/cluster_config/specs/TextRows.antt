@@ -111,9 +111,21 @@ behind_journal : read_text node_column (node_front ++ node_back ++ codes "journa
 unfolding read_text read_by node_column session_lines numbers_lines lines_of journal_line field_at line_value_at line_at text_end_at decode_pairs
 behind_journal = refl
 
+-- the other root service that orders commands, and two that a replica can't have
+abbrev node_lines_of : List ℕ → List ℕ
+node_lines_of root = front ++ codes "root " ++ root ++ codes "\nvect echo\nme 0\nrow " ++ key ++ codes "\ncoin " ++ key ++ codes "\n" ++ node_back
+
+node_of_direct : read_text node_column (node_lines_of (codes "7")) ≡ Ok (record one_node { root = 7 })
+unfolding read_text read_by node_column session_lines numbers_lines lines_of journal_line field_at line_value_at line_at text_end_at decode_pairs
+node_of_direct = refl
+
 other_root : read_text node_column (front ++ codes "root 5\n") ≡ Err 5
 unfolding read_text read_by node_column session_lines numbers_lines field_at line_value_at line_at text_end_at
 other_root = refl
+
+root_of_none : read_text node_column (front ++ codes "root 8\n") ≡ Err 5
+unfolding read_text read_by node_column session_lines numbers_lines field_at line_value_at line_at text_end_at
+root_of_none = refl
 
 no_such_replica : read_text node_column (front ++ codes "root 6\nvect echo\nme 1\n") ≡ Err 7
 unfolding read_text read_by node_column session_lines numbers_lines field_at line_value_at line_at text_end_at

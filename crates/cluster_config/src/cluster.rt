@@ -20,7 +20,7 @@ pub struct ClusterConfig {
     pub session: u64,
     /// How many replicas there are, and how many of them may be faulty.
     pub p: Params,
-    /// The root service, which is 6, and the broadcast of VECTs.
+    /// The root service, which is 6 or 7, and the broadcast of VECTs.
     pub mode: Mode,
     /// The key from which all others are dealt.
     pub master: [u8; 32],
@@ -55,7 +55,7 @@ fn cluster_lines<'a>(lines: &mut Lines<'a>) -> Result<ClusterView<'a>, WrongLine
 {
     let (version, session) = lines.session()?;
     let p = lines.numbers()?;
-    let root = lines.number("root", 6, 6)? as u8;
+    let root = lines.number("root", 6, 7)? as u8;
     let vect = lines.vect("vect")?;
     let master = lines.key("master")?;
     let peers = lines.addresses("peer", p.n())?;

@@ -15,7 +15,7 @@ fn read_plan(lines: &mut Lines<'_>) -> Result<Plan, WrongLine>
 {
     let (version, session) = lines.session()?;
     let p = lines.numbers()?;
-    let root = lines.number("root", 1, 6)? as u8;
+    let root = lines.number("root", 1, 7)? as u8;
     let vect = lines.vect("vect")?;
     let master = lines.key("master")?;
     let order = lines.order("order")?;

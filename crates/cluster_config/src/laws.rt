@@ -35,10 +35,10 @@ pub fn number_law()
 {}
 
 /// What the configurations of plans, nodes, clusters, requests and logs that are watched keep to: a plan gives each
-/// command to at least one replica, and to no more than there are. The root service of a node and of a cluster is the
-/// sixth, a node's number is below n, and behind its n keys there are zeros. Each but a plan has a peer for each of n
-/// replicas. A cluster has at most 64 requests, each for a replica below n, and no request has more than 4,088 bytes.
-/// Of a log that is watched at least one row is waited for.
+/// command to at least one replica, and to no more than there are. The root service of a node and of a cluster is one
+/// that orders commands, a node's number is below n, and behind its n keys there are zeros. Each but a plan has a peer
+/// for each of n replicas. A cluster has at most 64 requests, each for a replica below n, and no request has more than
+/// 4,088 bytes. Of a log that is watched at least one row is waited for.
 ///
 /// It does nothing: its contract is the law.
 pub fn config_ranges()

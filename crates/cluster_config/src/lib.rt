@@ -23,7 +23,7 @@
 //! | `session` | 0 to 2^64 - 1 | x | x | x | x | | |
 //! | `n` | 1 to 31 | x | x | x | x | x | x |
 //! | `f` | n is at least 3f + 1 | x | x | x | x | x | x |
-//! | `root` | 1 to 6, and 6 alone for node and cluster | x | | x | x | | |
+//! | `root` | 1 to 7, and 6 or 7 for node and cluster | x | | x | x | | |
 //! | `vect` | `echo` or `reliable` | x | | x | x | | |
 //! | `master` | a key | x | x | | x | | |
 //! | `me` | below n | | | x | | | |

@@ -19,7 +19,7 @@ pub struct NodeConfig {
     pub session: u64,
     /// How many replicas there are, and how many of them may be faulty.
     pub p: Params,
-    /// The root service, which is 6, and the broadcast of VECTs.
+    /// The root service, which is 6 or 7, and the broadcast of VECTs.
     pub mode: Mode,
     /// Which replica it is, below n.
     pub me: u8,
@@ -63,7 +63,7 @@ fn node_lines<'a>(lines: &mut Lines<'a>) -> Result<NodeView<'a>, WrongLine>
 {
     let (version, session) = lines.session()?;
     let p = lines.numbers()?;
-    let root = lines.number("root", 6, 6)? as u8;
+    let root = lines.number("root", 6, 7)? as u8;
     let vect = lines.vect("vect")?;
     let me = lines.number("me", 0, u64::from(p.n()) - 1)? as u8;
     let key_row = lines.row("row", p.n())?;

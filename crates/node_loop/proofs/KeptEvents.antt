@@ -9,10 +9,11 @@ use Rattle.ritas_base.specs.declared.event.Event.TheVariants as events
 use Rattle.ritas_base.specs.declared.item.Item.{Item}
 use Rattle.ritas_base.specs.Limits.{least_request, longest_input, longest_frame}
 use Rattle.ritas_base.specs.Numbers.{Numbers}
+use Rattle.ritas_base.specs.Slots.{is_atomic}
 use Rattle.frame_codec.specs.declared.fault.BodyFault.{BodyFault}
 use Rattle.frame_codec.specs.Body.{body_answer}
 use Rattle.frame_codec.specs.Format.{Done, Plain, read, plain_at, ◌>>=◌}
-use Rattle.frame_codec.specs.Grammar.{bit, class1, class2, class3, ids, vector}
+use Rattle.frame_codec.specs.Grammar.{any_ids, bit, class1, class2, class3, ids, vector}
 use Rattle.frame_codec.specs.Limits.{longest_entry}
 use Rattle.frame_codec.specs.Inputs.{input_format, input_fault, fault_offset}
 use Rattle.keyed_channel.specs.KeyRow.{KeyRow}
@@ -297,7 +298,8 @@ format_short p root bytes e = here (root == 3) (root == 4) (root == 5) refl refl
     plain : (low high : ℕ) → high ≤ longest_frame → fault_offset (length bytes) (plain_at low high bytes) ≡ None → length bytes ≤ longest_frame
     plain low high most e = let short = plain_short low high (length bytes) bytes refl e in omega (arith, most, short)
 
-    fourth : (b : Bool) → b ≡ true → fault_offset (length bytes) (read (if b then Plain 1 longest_input else vector p root) bytes) ≡ None → length bytes ≤ longest_frame
+    fourth : (b : Bool) → b ≡ true
+        → fault_offset (length bytes) (read (if b then Plain 1 longest_input else if root == 7 then any_ids p.n else vector p root) bytes) ≡ None → length bytes ≤ longest_frame
     fourth true is e = plain 1 longest_input (lit≤ tt) e
     fourth false is e = absurd (cc is)
 
@@ -305,16 +307,16 @@ format_short p root bytes e = here (root == 3) (root == 4) (root == 5) refl refl
     fifth true is e = absurd (cc is)
     fifth false is e = plain 1 longest_entry (lit≤ tt) e
 
-    five_is : (root == 5) ≡ true → (root == 6) ≡ false
-    five_is is = ap (λ (x : ℕ). x == 6) (eqb-true root 5 is)
+    five_is : (root == 5) ≡ true → is_atomic root ≡ false
+    five_is is = ap is_atomic (eqb-true root 5 is)
 
     here : (a b c : Bool) → (root == 4) ≡ b → (root == 5) ≡ c
-        → fault_offset (length bytes) (read (if a then bit 1 else if b then (if root == 4 then Plain 1 longest_input else vector p root)
-        else if c then (if root == 6 then ids p.n else Plain 1 longest_entry) else Plain (if root == 6 then least_request else 1) longest_input) bytes) ≡ None → length bytes ≤ longest_frame
+        → fault_offset (length bytes) (read (if a then bit 1 else if b then (if root == 4 then Plain 1 longest_input else if root == 7 then any_ids p.n else vector p root)
+        else if c then (if is_atomic root then ids p.n else Plain 1 longest_entry) else Plain (if is_atomic root then least_request else 1) longest_input) bytes) ≡ None → length bytes ≤ longest_frame
     here true b c four five e = let short = bit_short (length bytes) bytes e in omega (arith, short)
     here false true c four five e = fourth (root == 4) four e
-    here false false true four five e = fifth (root == 6) (five_is five) e
-    here false false false four five e = plain (if root == 6 then least_request else 1) longest_input (lit≤ tt) e
+    here false false true four five e = fifth (is_atomic root) (five_is five) e
+    here false false false four five e = plain (if is_atomic root then least_request else 1) longest_input (lit≤ tt) e
 
 checked_short : (r : Rules) (p : Parts) (bytes : List ℕ) → input_check r p bytes ≡ None → length bytes ≤ longest_frame
 unfolding input_check

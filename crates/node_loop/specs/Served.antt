@@ -1,6 +1,7 @@
 -- What serving leaves, and how it ends.
-use Rattle.std.specs.Prelude.{◌≡◌, ℕ, ◌==◌, ◌<◌, ◌^◌, List, ◌∷◌, ◌++◌, length, Some}
+use Rattle.std.specs.Prelude.{◌≡◌, ℕ, true, ◌==◌, ◌<◌, ◌^◌, List, ◌∷◌, ◌++◌, length, Some}
 use Rattle.std.specs.List.{slice_get, list_any}
+use Rattle.ritas_base.specs.Slots.{is_atomic}
 use Rattle.ritas_base.specs.declared.event.Event.{Event}
 use Rattle.keyed_channel.specs.KeyRow.{KeyRow}
 use Rattle.ritas_core.specs.Stands.{Meaning}
@@ -23,7 +24,7 @@ use Rattle.node_loop.specs.Outs.{Outs, Tells, Agrees, StopsPartway}
 pub record AreHere {S E C : Type 0} (m : Meaning S E C KeyRow) (w : Setting) (es : List Event) (numbers : List ℕ) (here : List (Replica S E C)) : Type 0 where
   pub kind : IsWorld m.service m.cast w
   pub going : NoneStops w
-  pub atomic : w.mode.root ≡ 6
+  pub atomic : is_atomic w.mode.root ≡ true
   pub many : length here ≡ length numbers
   pub apart : (j k i : ℕ) → slice_get numbers j ≡ Some i → slice_get numbers k ≡ Some i → j ≡ k
   pub named : (i : ℕ) → w.is_correct i ≡ list_any (λ j. j == i) numbers

@@ -61,9 +61,9 @@ pub(crate) enum Next {
 /// runs out. It waits nowhere but in the link's calls; nothing says that turns ever end.
 ///
 /// What the contract says holds where the replicas are of one world (`AreHere`): they are its correct ones, all of them, each once and
-/// in any order, as they stand after the events of that world before serving began, in which none is stopped, and its root service is
-/// 6. Nothing is said where that isn't so, as of replicas of two sessions or where one of them was left out or had other calls. The
-/// tape is taken as it is: for a schedule file it has its header already.
+/// in any order, as they stand after the events of that world before serving began, in which none is stopped, and its root service
+/// orders commands. Nothing is said where that isn't so, as of replicas of two sessions or where one of them was left out or had
+/// other calls. The tape is taken as it is: for a schedule file it has its header already.
 pub fn serve<R: Net + Wait, S: Service, E: Broadcast, C: Coin + Drop, L: Link, K: Sink>(
     rt: &R,
     alloc: Global,

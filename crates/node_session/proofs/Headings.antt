@@ -1,14 +1,16 @@
 -- The headers of configurations are headers of files, and their requests are items with which serving may begin.
-use Rattle.std.proofs.Common.{◌≡◌, ℕ, ◌+◌, ◌^◌, ◌<◌, ◌≤◌, true, List, [], ◌∷◌, ◌++◌, length, map, get_or, Some, None, refl, sym, ◌∙◌, ap, arith}
+use Rattle.std.proofs.Common.{◌≡◌, ℕ, ◌+◌, ◌^◌, ◌<◌, ◌≤◌, ◌==◌, true, List, [], ◌∷◌, ◌++◌, length, map, get_or, Some, None, refl, sym, ◌∙◌, ap, inl, inr, arith}
 use Rattle.std.specs.Prelude.{take}
 use Rattle.std.specs.List.{All, AllByRecursion, slice_get}
 use Rattle.std.specs.Int.{w32, to_be_bytes}
+use Rattle.std.proofs.lemmas.Bool.{or_cases, eqb-true}
 use Rattle.std.proofs.lemmas.List.{length-append, map-append, take_more}
 use Rattle.std.proofs.lemmas.List.Elements.{All-from_recursion}
 use Rattle.std.proofs.lemmas.Nat.{pow_below, pow_pos}
 use Rattle.std.proofs.lemmas.Option.{same_Some, slice_get_within, slice_get-get_or}
 use Rattle.outside.specs.declared.link.LinkItem.{LinkItem}
 use Rattle.ritas_base.specs.Numbers.{IsSession}
+use Rattle.ritas_base.specs.Slots.{is_atomic}
 use Rattle.schedule_file.specs.ReadHeader.{heading, is_root}
 use Rattle.schedule_file.specs.Spelling.{IsHeading, IsKey}
 use Rattle.cluster_config.specs.declared.cluster.ClusterConfig.{ClusterConfig}
@@ -21,15 +23,18 @@ use Rattle.node_loop.specs.Served.{MayBegin}
 use Rattle.node_session.specs.Configs.{node_header, node_session, cluster_header, first_item}
 use Rattle.node_session.specs.Session.{IsServable}
 
-sixth : (root : ℕ) → root ≡ 6 → is_root root ≡ true
-sixth root is = ap is_root is
+ordered : (root : ℕ) → is_atomic root ≡ true → is_root root ≡ true
+ordered root is = elim (or_cases (root == 6) (root == 7) is) [
+  | inl six ↦ ap is_root (eqb-true root 6 six)
+  | inr seven ↦ ap is_root (eqb-true root 7 seven)
+]
 
 pub node_heading : (config : NodeConfig) → config.session < 2 ^ 64 → IsSession config.p → length config.key_row ≡ 31 → AllByRecursion IsKey config.key_row
     → length config.coin_key ≡ 32 → FitsNode (node_text config) → IsHeading (heading (node_header config))
 node_heading config session numbers places keys coin fits = record {
   session = session;
   numbers = numbers;
-  root = sixth config.mode.root fits.root;
+  root = ordered config.mode.root fits.root;
   correct = pow_below config.me config.p.n fits.me;
   keys = (fits.me, refl, record { places = places; each = keys; rest = fits.rest }, coin);
 }
@@ -48,7 +53,7 @@ pub cluster_heading : (config : ClusterConfig) → config.session < 2 ^ 64 → I
 cluster_heading config session numbers master fits = record {
   session = session;
   numbers = numbers;
-  root = sixth config.mode.root fits.root;
+  root = ordered config.mode.root fits.root;
   correct = omega (arith, pow_pos config.p.n);
   keys = master;
 }

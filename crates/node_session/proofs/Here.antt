@@ -4,6 +4,7 @@ use Rattle.std.specs.Prelude.{filter}
 use Rattle.std.specs.List.{range_with_len, slice_get, list_any}
 use Rattle.std.proofs.lemmas.Bool.{eqb-true, eq-eqb, ne_eqb, both_ways, cases_lt}
 use Rattle.std.proofs.lemmas.Option.{same_Some}
+use Rattle.ritas_base.specs.Slots.{is_atomic}
 use Rattle.ritas_base.specs.declared.event.Event.{Event}
 use Rattle.ritas_core.specs.Stands.{Meaning}
 use Rattle.keyed_channel.specs.KeyRow.{KeyRow}
@@ -103,7 +104,7 @@ module _ (test : ℕ → Bool) where
   found k (suc n) i low high = found_by k n i low (λ above. found (k + 1) n i above (omega arith)) (k == i) refl
 
 -- the members of a world are here
-pub are_here : {S E C : Type 0} (m : Meaning S E C KeyRow) (w : Setting) (es : List Event) (here : List (Replica S E C)) → IsWorld m.service m.cast w → NoneStops w → w.mode.root ≡ 6
+pub are_here : {S E C : Type 0} (m : Meaning S E C KeyRow) (w : Setting) (es : List Event) (here : List (Replica S E C)) → IsWorld m.service m.cast w → NoneStops w → is_atomic w.mode.root ≡ true
     → AreMembers m w (states_of w es) here → AreHere m w es (members w) here
 are_here m w es here kind going atomic stand = record {
   kind = kind;

@@ -1,5 +1,5 @@
 -- What is true of a life of a node with a journal.
-use Rattle.std.proofs.Common.{◌≡◌, ℕ, ◌≤◌, Bool, true, false, List, [], ◌∷◌, ◌++◌, reverse, refl, sym, ◌∙◌, ap, ap₂, subst, append_assoc, arith, inl, inr}
+use Rattle.std.proofs.Common.{◌≡◌, ℕ, ◌≤◌, Bool, true, false, List, [], ◌∷◌, ◌++◌, reverse, refl, sym, ◌∙◌, ap, subst, append_assoc, arith, inl, inr}
 use Rattle.std.specs.List.{AllByRecursion}
 use Rattle.std.proofs.lemmas.List.{reverse-reverse}
 use Rattle.std.proofs.lemmas.List.Elements.{All-from_recursion}
@@ -9,8 +9,6 @@ use Rattle.ritas_base.specs.Members.{has_member}
 use Rattle.event_journal.specs.Journal.{IsRecord}
 use Rattle.schedule_file.specs.Spelling.{IsHeading, header_text}
 use Rattle.schedule_file.specs.declared.header.Header.{Header}
-use Rattle.ritas_core.specs.Rules.{other_form}
-use Rattle.schedule_replay.specs.Layers.{broadcast_of, service_of, setting_by, setting_of}
 use Rattle.world_model.specs.EveryWorld.{IsWorld, AgreementLaw}
 use Rattle.world_model.specs.MadeOrder.{all_made}
 use Rattle.node_loop.specs.Deeds.{firsts_in}
@@ -253,10 +251,7 @@ life_weaker x past w tells base outs stands more_stands fails more_fails end one
     by_end (ends.JournalFull size) far kept group older held = two (archive.Full size) group older held
     by_end e far kept group older held = one kept held
 
--- ---- the world of a header
-
-pub its_setting : (h : Header) (form : ℕ) → h.mode.root ≡ 6 → form ≡ other_form h.mode → setting_by (service_of 6) (broadcast_of form) h ≡ setting_of h
-its_setting h form root is = ap₂ (λ (r x : ℕ). setting_by (service_of r) (broadcast_of x) h) (sym root) is
+-- ---- another world of a header
 
 pub life_in : (x : Session) (past : List Event) (w v : Setting) (tells : Tells) (base : Outs) (now : Moment) (end : ServeEnd) → w ≡ v
     → ServesLife x past w tells base now end → ServesLife x past v tells base now end

@@ -1,6 +1,7 @@
 -- Serving the session of a header: what an output and a link took of it. Lists of events and of the link's calls have the newest first.
 use Rattle.std.specs.Prelude.{◌≡◌, ◌≤◌, true, List, [], ◌∷◌, ◌++◌, length, map, reverse}
 use Rattle.std.specs.List.{All, AllByRecursion}
+use Rattle.ritas_base.specs.Slots.{is_atomic}
 use Rattle.ritas_base.specs.declared.event.Event.{Event}
 use Rattle.outside.specs.LinkCalls.{TookBack}
 use Rattle.outside.specs.Links.{LinkAct, Starts, Gives, replies_in}
@@ -29,10 +30,10 @@ use Rattle.node_session.specs.Opening.{HasBegun, HasFailed}
 
 -- ---- what a session is served with
 
--- the header may stand in a file, it is one of atomic broadcast, and the items with which it begins are messages of clients
+-- the header may stand in a file, its root service orders commands, and the items with which it begins are messages of clients
 pub record IsServable (s : Session) (first : List LinkItem) : Type 0 where
   pub heading : IsHeading (heading s.header)
-  pub atomic : s.header.mode.root ≡ 6
+  pub atomic : is_atomic s.header.mode.root ≡ true
   pub firsts : All MayBegin first
 
 -- ---- what is served

@@ -4,7 +4,7 @@ ghost use Rattle.std.specs.List.{AllByRecursion};
 ghost use Rattle.ritas_base.specs.Members.{has_member};
 ghost use Rattle.ritas_core.specs.Rules.{other_form};
 ghost use Rattle.event_journal.specs.Journal.{IsRecord};
-ghost use Rattle.schedule_replay.specs.Layers.{setting_by, setting_of};
+ghost use Rattle.schedule_replay.specs.Layers.{other_of, setting_by, setting_of};
 ghost use Rattle.node_loop.specs.Journals.{journal_moment, OpenedAs};
 ghost use Rattle.node_loop.specs.Outs.{outs_of, tells_of};
 ghost use Rattle.node_session.specs.Lives.{ServesLife};
@@ -15,6 +15,7 @@ use crate::opening::open;
 use crate::session::{Session, first_replicas};
 use atomic_bcast::Abc;
 use binary_consensus::Bin;
+use direct_atomic::Direct;
 use echo_bcast::Eb;
 use event_journal::Journal;
 use layer_api::{Broadcast, Service};
@@ -25,7 +26,7 @@ use node_loop::{
 };
 use outside::{Disk, Link, Sink};
 use reliable_bcast::{DigestRb, Rb};
-use ritas_base::{Event, Mem};
+use ritas_base::{Event, Mem, RootService};
 use schedule_replay::other_form;
 use std::alloc::Global;
 use std::net::Net;
@@ -99,6 +100,38 @@ fn live_as<R: Net + Wait, S: Service, E: Broadcast, L: Link, K: Sink, D: Disk>(
     Ok(close(output, end))
 }
 
+// Serves a life with this service, and the broadcasts of its mode.
+fn live_by<R: Net + Wait, S: Service, L: Link, K: Sink, D: Disk>(
+    rt: &R,
+    alloc: Global,
+    life: &mut Life,
+    recovered: Vec<Event>,
+    link: &mut L,
+    output: &mut K,
+    disk: &mut D,
+) -> Result<ServeEnd, Mem>
+    requires servable { IsServable life.old.session [] }
+    requires serves { S.rules.serves life.old.session.header.mode.root ≡ true }
+    requires live { life.old.journal.live ≡ true }
+    requires own { AllByRecursion (IsRecord life.old.journal.me) recovered.items }
+    requires member { has_member life.old.session.header.correct life.old.journal.me ≡ true }
+    ensures served { let h = life.old.session.header in
+        (head : List ℕ) → OpenedAs D.Disk head (reverse recovered.items) life.old.journal disk.old
+        → IfOk result (λ end. ServesLife life.old.session (reverse recovered.items) (setting_by S.rules (other_of h.mode) h) (tells_of K.Sink L.Link)
+        (outs_of K.Sink L.Link output.old link.old)
+        (journal_moment D.Disk head (reverse recovered.items) life.old.journal.me disk.old (outs_of K.Sink L.Link output.new link.new) life.new.journal disk.new) end) }
+    ensures unserved { OnErr result ((output.new ≡ output.old) × (link.new ≡ link.old) × (disk.new ≡ disk.old)) }
+{
+    let form = other_form(&life.session.header.mode);
+    if form == 2 {
+        live_as::<R, S, Eb, L, K, D>(rt, alloc, life, recovered, link, output, disk)
+    } else if form == 3 {
+        live_as::<R, S, DigestRb, L, K, D>(rt, alloc, life, recovered, link, output, disk)
+    } else {
+        live_as::<R, S, Rb, L, K, D>(rt, alloc, life, recovered, link, output, disk)
+    }
+}
+
 /// Serves a life of a replica, after the events that its journal kept of the lives before, the oldest first, as `serve_session` does one without a
 /// journal.
 ///
@@ -124,14 +157,17 @@ pub(crate) fn serve_life<R: Net + Wait, L: Link, K: Sink, D: Disk>(
         (journal_moment D.Disk head (reverse recovered.items) life.old.journal.me disk.old (outs_of K.Sink L.Link output.new link.new) life.new.journal disk.new) end) }
     ensures unserved { OnErr result ((output.new ≡ output.old) × (link.new ≡ link.old) × (disk.new ≡ disk.old)) }
 {
-    let form = other_form(&life.session.header.mode);
-    if form == 2 {
-        live_as::<R, Abc<Vc<Mvc<Bin>>>, Eb, L, K, D>(rt, alloc, life, recovered, link, output, disk)
-    } else if form == 3 {
-        live_as::<R, Abc<Vc<Mvc<Bin>>>, DigestRb, L, K, D>(
+    match life.session.header.mode.service() {
+        RootService::Atomic => live_by::<R, Abc<Vc<Mvc<Bin>>>, L, K, D>(
             rt, alloc, life, recovered, link, output, disk,
-        )
-    } else {
-        live_as::<R, Abc<Vc<Mvc<Bin>>>, Rb, L, K, D>(rt, alloc, life, recovered, link, output, disk)
+        ),
+        RootService::Direct => live_by::<R, Direct<Mvc<Bin>>, L, K, D>(
+            rt, alloc, life, recovered, link, output, disk,
+        ),
+        RootService::Reliable
+        | RootService::Echo
+        | RootService::Binary
+        | RootService::MultiValued
+        | RootService::Vector => unreachable!(),
     }
 }

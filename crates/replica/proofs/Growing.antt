@@ -3,17 +3,17 @@ use Rattle.std.proofs.Common.{◌≡◌, ℕ, ◌+◌, ◌<◌, ◌≤◌, Bool,
 use Rattle.std.specs.List.{AllByRecursion}
 use Rattle.std.specs.Option.{is_some}
 use Rattle.std.proofs.Math.Dec.{leb}
-use Rattle.std.proofs.lemmas.Bool.{both_ways, or_cases, eqb-true, le-leb, leb-true}
+use Rattle.std.proofs.lemmas.Bool.{or_cases, eqb-true}
 use Rattle.ritas_base.specs.declared.id.Id.{Id}
 use Rattle.ritas_base.specs.declared.slot.Slot.{Slot}
 use Rattle.ritas_base.specs.Limits.{least_request}
-use Rattle.ritas_base.specs.Slots.{command_slot, has_class}
-use Rattle.ritas_base.specs.SlotLaws.{right_is}
+use Rattle.ritas_base.specs.Slots.{command_slot, is_atomic}
 use Rattle.ritas_base.specs.Numbers.{Numbers}
 use Rattle.frame_codec.specs.Format.{Is}
 use Rattle.frame_codec.specs.Grammar.{value, class1}
 use Rattle.layer_api.specs.Words.{Word, Ask, Hear, is_heard, value_at}
-use Rattle.layer_api.specs.Service.{AreProper, AreHeard, AreRecent, MayHear, MayWord, IsPart, is_past}
+use Rattle.layer_api.specs.PurposeLaws.{order_of}
+use Rattle.layer_api.specs.Service.{orders_commands, AreProper, AreHeard, AreRecent, MayHear, MayWord, IsPart, is_past}
 use Rattle.layer_api.specs.FedLaws.{heard_met}
 use Rattle.layer_api.specs.PartLaws.{heard_is}
 use Rattle.command_log.specs.Rows.{IsIn, entries_of_log}
@@ -37,36 +37,30 @@ some_is : (o : Option (List ℕ)) → is_some o ≡ true → (v : List ℕ) × (
 some_is None is = absurd (cc)
 some_is (Some v) is = (v, refl)
 
--- the root service of commands that has an identifier log
-sixth : (root : ℕ) → leb root 5 ≡ false → has_class root 1 ≡ true → root ≡ 6
-unfolding has_class
-sixth root high has =
-    elim (or_cases (leb root 2) (root == 6) has) [
-      | inl low ↦ absurd (both_ways (leb root 5) high (le-leb root 5 (omega (arith, leb-true root 2 low))))
-      | inr six ↦ eqb-true root 6 six
+-- a command's value in a root service that orders commands
+command_value : (p : Numbers) (root origin num : ℕ) (v : List ℕ) → is_atomic root ≡ true → Is (value p root (command_slot origin num)) v → least_request ≤ length v
+unfolding value class1
+command_value p root origin num v atomic is =
+    elim (or_cases (root == 6) (root == 7) atomic) [
+      | inl six ↦ command_long v (subst (λ (n : ℕ). Is (class1 n) v) (eqb-true root 6 six) is)
+      | inr seven ↦ command_long v (subst (λ (n : ℕ). Is (class1 n) v) (eqb-true root 7 seven) is)
     ]
-
--- a command's value there
-command_value : (p : Numbers) (root origin num : ℕ) (v : List ℕ) → root ≡ 6 → Is (value p root (command_slot origin num)) v → least_request ≤ length v
-unfolding value
-command_value p root origin num v six is = command_long v (subst (λ (n : ℕ). Is (class1 n) v) six is)
 
 module _ (r : Rules) (laws : LayerLaws r) (h : List Entry) (proper : IsProper r h) where
   delivered_is : (x : Id) → is_heard (WordsAt r h) (command_slot x.origin x.num) ≡ true → (v : List ℕ) × (value_at (WordsAt r h) (command_slot x.origin x.num) ≡ Some v)
   delivered_is x heard =
       some_is (value_at (WordsAt r h) (command_slot x.origin x.num)) (sym (heard_is (WordsAt r h) (command_slot x.origin x.num)) ∙ heard)
 
-  has_command : (x : Id) → leb r.mode.root 5 ≡ false → is_heard (WordsAt r h) (command_slot x.origin x.num) ≡ true
+  has_command : (x : Id) → is_atomic r.mode.root ≡ true → is_heard (WordsAt r h) (command_slot x.origin x.num) ≡ true
       → is_past r.service (seat_of r) (WordsAt r h) (command_slot x.origin x.num) ≡ false → HasCommand r h x
-  has_command x high heard near =
+  has_command x atomic heard near =
       let s = command_slot x.origin x.num in
       let v = delivered_is x heard in
       let met : MayHear r.service (seat_of r) _ s v.0 = (heard_met (MayWord r.service (seat_of r)) (WordsAt r h) s v.0 proper v.1).1 in
-      let six = sixth r.mode.root high (right_is r.casts.numbers r.mode s met.right).has in
       record {
         command = v.0;
         there = sym (heard_delivered r laws h s) ∙ v.1;
-        long = command_value r.casts.numbers r.mode.root x.origin x.num v.0 six met.good;
+        long = command_value r.casts.numbers r.mode.root x.origin x.num v.0 atomic met.good;
         shown = ap (λ (b : Bool). leb 3 r.mode.root && b) near ∙ none (leb 3 r.mode.root);
       }
     where
@@ -74,10 +68,10 @@ module _ (r : Rules) (laws : LayerLaws r) (h : List Entry) (proper : IsProper r 
       none true = refl
       none false = refl
 
-  have_commands : (xs : List Id) → leb r.mode.root 5 ≡ false → AreHeard (WordsAt r h) xs → AreRecent r.service (seat_of r) (WordsAt r h) xs
+  have_commands : (xs : List Id) → is_atomic r.mode.root ≡ true → AreHeard (WordsAt r h) xs → AreRecent r.service (seat_of r) (WordsAt r h) xs
       → AllByRecursion (HasCommand r h) xs
-  have_commands [] high heard near = tt
-  have_commands (x ∷ xs) high heard near = (has_command x high heard.0 near.0, have_commands xs high heard.1 near.1)
+  have_commands [] atomic heard near = tt
+  have_commands (x ∷ xs) atomic heard near = (has_command x atomic heard.0 near.0, have_commands xs atomic heard.1 near.1)
 
 heard_front : (w : List Word) (more xs : List Id) → AreHeard w (more ++ xs) → AreHeard w more
 heard_front w [] xs all = tt
@@ -143,18 +137,18 @@ module _ (r : Rules) (laws : LayerLaws r) (e : Entry) (h : List Entry) (proper :
       record {
         more = a.more;
         whole = a.whole;
-        have = by_root a.more (leb r.mode.root 5) refl
-            (λ low. no_front a.more (ids_at r h) (a.whole ∙ means.done low))
-            (λ high. have_commands r laws (e ∷ h) now a.more high
+        have = by_purpose a.more (orders_commands r.service.purpose) refl
+            (λ other. no_front a.more (ids_at r h) (a.whole ∙ means.done other))
+            (λ orders. have_commands r laws (e ∷ h) now a.more (order_of r.mode.root r.service.purpose (laws.words.purpose r.mode.root laws.serves) ∙ orders)
             (heard_front w a.more (ids_at r h) (subst (λ (xs : List Id). AreHeard w xs) (sym a.whole) (laws.words.done_heard seat w now))) a.recent);
         same = same_entries (command_of r h) (command_of r (e ∷ h)) (ids_at r h) same_command;
         room = omega (arith, few, ap length (sym a.whole), length-append a.more (ids_at r h));
       }
     where
-      by_root : (more : List Id) (b : Bool) → leb r.mode.root 5 ≡ b → (leb r.mode.root 5 ≡ true → more ≡ [])
-          → (leb r.mode.root 5 ≡ false → AllByRecursion (HasCommand r (e ∷ h)) more) → AllByRecursion (HasCommand r (e ∷ h)) more
-      by_root more true low none have = subst (λ (xs : List Id). AllByRecursion (HasCommand r (e ∷ h)) xs) (sym (none low)) tt
-      by_root more false high none have = have high
+      by_purpose : (more : List Id) (b : Bool) → orders_commands r.service.purpose ≡ b → (orders_commands r.service.purpose ≡ false → more ≡ [])
+          → (orders_commands r.service.purpose ≡ true → AllByRecursion (HasCommand r (e ∷ h)) more) → AllByRecursion (HasCommand r (e ∷ h)) more
+      by_purpose more true orders none have = have orders
+      by_purpose more false other none have = subst (λ (xs : List Id). AllByRecursion (HasCommand r (e ∷ h)) xs) (sym (none other)) tt
 
   -- so the rows of a history are a part of those with an entry more
   pub rows_grow : IsPart (history_rows r h) (history_rows r (e ∷ h))

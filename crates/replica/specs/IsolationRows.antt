@@ -11,7 +11,7 @@ use Rattle.ritas_base.specs.Slots.{command_slot}
 use Rattle.ritas_base.specs.Tags.{Tags}
 use Rattle.keyed_channel.specs.KeyRow.{KeyRow}
 use Rattle.keyed_channel.specs.declared.frame.OpenFault.TheVariants.{BadTag}
-use Rattle.layer_api.specs.Service.{ServiceRules, Undecided}
+use Rattle.layer_api.specs.Service.{ServiceRules, Carries, Undecided}
 use Rattle.ooc_buffers.specs.Lists.{HeldItem, held_of_peer, most_held_bytes}
 use Rattle.reliable_bcast.specs.Bracha.{bracha}
 use Rattle.ritas_core.specs.declared.answer.Answer.{Answer}
@@ -41,6 +41,7 @@ no_tags = record { digest = λ m. []; entry = λ s echoer verifier d. [] }
 abbrev closed : ServiceRules
 closed = record {
   serves = λ root. true;
+  purpose = Carries;
   says = λ seat w c. [];
   opens = λ seat w s. false;
   completed = λ seat w. 0;

@@ -2,13 +2,14 @@
 use Rattle.std.proofs.Common.{◌≡◌, ◌≤◌, refl}
 use Rattle.std.specs.Prelude.{nat_le}
 use Rattle.std.proofs.lemmas.Bool.{and_parts, leb-true}
+use Rattle.ritas_base.specs.RootServices.{most_root}
 use Rattle.schedule_file.specs.declared.header.Header.{Header}
 use Rattle.schedule_file.specs.ReadHeader.{Heading, heading}
 use Rattle.schedule_file.specs.Spelling.{IsHeading}
 
 -- a root service's number
-root_of : (h : Heading) → IsHeading h → (1 ≤ h.root) × (h.root ≤ 6)
-root_of h is = let p = and_parts (nat_le 1 h.root) (nat_le h.root 6) is.root in (leb-true 1 h.root p.0, leb-true h.root 6 p.1)
+root_of : (h : Heading) → IsHeading h → (1 ≤ h.root) × (h.root ≤ most_root)
+root_of h is = let p = and_parts (nat_le 1 h.root) (nat_le h.root most_root) is.root in (leb-true 1 h.root p.0, leb-true h.root most_root p.1)
 
 -- each heading that a file may have is that of a header
 pub header_of : (k : Heading) → IsHeading k → (h : Header) × (heading h ≡ k)

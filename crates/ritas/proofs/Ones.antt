@@ -1,6 +1,7 @@
 -- What a configuration says determines it.
 use Rattle.std.proofs.Common.{◌≡◌, ◌≤◌, ap₂, subst}
 use Rattle.std.proofs.Math.Bridge.{le_prop}
+use Rattle.ritas_base.specs.RootServices.{most_root}
 use Rattle.ritas_base.specs.declared.plan.Plan.{Plan}
 use Rattle.cluster_config.specs.declared.cluster.ClusterConfig.{ClusterConfig}
 use Rattle.cluster_config.specs.declared.node.NodeConfig.{NodeConfig}
@@ -10,7 +11,7 @@ use Rattle.cluster_config.specs.Node.{NodeText, node_text}
 
 -- ---- plans
 
-abbrev plan_by : (x : Planned) → 1 ≤ x.root → x.root ≤ 6 → Plan
+abbrev plan_by : (x : Planned) → 1 ≤ x.root → x.root ≤ most_root → Plan
 plan_by x low high = record {
   session = x.session;
   p = x.p;
@@ -23,9 +24,9 @@ plan_by x low high = record {
   copies = x.copies;
 }
 
-same_plan : (p : Plan) (x : Planned) → planned p ≡ x → (low : 1 ≤ x.root) (high : x.root ≤ 6) → p ≡ plan_by x low high
+same_plan : (p : Plan) (x : Planned) → planned p ≡ x → (low : 1 ≤ x.root) (high : x.root ≤ most_root) → p ≡ plan_by x low high
 same_plan p x e =
-    subst (λ (x : Planned). (low : 1 ≤ x.root) (high : x.root ≤ 6) → p ≡ plan_by x low high) e
+    subst (λ (x : Planned). (low : 1 ≤ x.root) (high : x.root ≤ most_root) → p ≡ plan_by x low high) e
     (λ low high. ap₂ (plan_by (planned p)) (le_prop p.mode.low low) (le_prop p.mode.high high))
 
 pub one_plan : (p q : Plan) → planned p ≡ planned q → p ≡ q
@@ -33,7 +34,7 @@ one_plan p q e = same_plan p (planned q) e q.mode.low q.mode.high
 
 -- ---- nodes
 
-abbrev node_by : (x : NodeText) → 1 ≤ x.root → x.root ≤ 6 → NodeConfig
+abbrev node_by : (x : NodeText) → 1 ≤ x.root → x.root ≤ most_root → NodeConfig
 node_by x low high = record {
   session = x.session;
   p = x.p;
@@ -48,9 +49,9 @@ node_by x low high = record {
   journal = x.journal;
 }
 
-same_node : (c : NodeConfig) (x : NodeText) → node_text c ≡ x → (low : 1 ≤ x.root) (high : x.root ≤ 6) → c ≡ node_by x low high
+same_node : (c : NodeConfig) (x : NodeText) → node_text c ≡ x → (low : 1 ≤ x.root) (high : x.root ≤ most_root) → c ≡ node_by x low high
 same_node c x e =
-    subst (λ (x : NodeText). (low : 1 ≤ x.root) (high : x.root ≤ 6) → c ≡ node_by x low high) e
+    subst (λ (x : NodeText). (low : 1 ≤ x.root) (high : x.root ≤ most_root) → c ≡ node_by x low high) e
     (λ low high. ap₂ (node_by (node_text c)) (le_prop c.mode.low low) (le_prop c.mode.high high))
 
 pub one_node : (c d : NodeConfig) → node_text c ≡ node_text d → c ≡ d
@@ -58,7 +59,7 @@ one_node c d e = same_node c (node_text d) e d.mode.low d.mode.high
 
 -- ---- clusters
 
-abbrev cluster_by : (x : ClusterText) → 1 ≤ x.root → x.root ≤ 6 → ClusterConfig
+abbrev cluster_by : (x : ClusterText) → 1 ≤ x.root → x.root ≤ most_root → ClusterConfig
 cluster_by x low high = record {
   session = x.session;
   p = x.p;
@@ -70,9 +71,9 @@ cluster_by x low high = record {
   requests = x.requests;
 }
 
-same_cluster : (c : ClusterConfig) (x : ClusterText) → cluster_text c ≡ x → (low : 1 ≤ x.root) (high : x.root ≤ 6) → c ≡ cluster_by x low high
+same_cluster : (c : ClusterConfig) (x : ClusterText) → cluster_text c ≡ x → (low : 1 ≤ x.root) (high : x.root ≤ most_root) → c ≡ cluster_by x low high
 same_cluster c x e =
-    subst (λ (x : ClusterText). (low : 1 ≤ x.root) (high : x.root ≤ 6) → c ≡ cluster_by x low high) e
+    subst (λ (x : ClusterText). (low : 1 ≤ x.root) (high : x.root ≤ most_root) → c ≡ cluster_by x low high) e
     (λ low high. ap₂ (cluster_by (cluster_text c)) (le_prop c.mode.low low) (le_prop c.mode.high high))
 
 pub one_cluster : (c d : ClusterConfig) → cluster_text c ≡ cluster_text d → c ≡ d

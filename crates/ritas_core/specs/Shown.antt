@@ -50,7 +50,7 @@ layers_out shown layers s = if nat_le 3 layers.mode.root then shown_out shown (g
 abbrev pub delivered_at : Rules → List Entry → Slot → Option (List ℕ)
 delivered_at r h s = out_at_slot r.casts s ((parts r h).calls s)
 
--- whether that is hidden: in root services 3 to 6 it is, once the slot is past
+-- whether that is hidden: in root services 3 to 7 it is, once the slot is past
 abbrev pub is_hidden : Rules → List Entry → Slot → Bool
 is_hidden r h s = nat_le 3 r.mode.root && is_past r.service (seat_of r) (parts r h).words s
 

@@ -108,7 +108,7 @@ impl<S: Service, E: Broadcast, C: Coin + Drop, T: Tagger + Drop> Core<S, E, C, T
         &self.layers.service
     }
 
-    /// What a slot delivered. `None` is answered exactly where it delivered nothing, and in root services 3 to 6 also where
+    /// What a slot delivered. `None` is answered exactly where it delivered nothing, and in root services 3 to 7 also where
     /// the slot is past: its round plus 2 is less than how many rounds are complete, or its command number plus 64 is less than
     /// the least of its origin that isn't finished. In root services 1 and 2 every slot's delivery is answered.
     ///

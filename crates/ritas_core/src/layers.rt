@@ -214,7 +214,7 @@ impl<S: Service, E: Broadcast, C: Coin + Drop, T: Tagger + Drop> Layers<S, E, C,
         slot.origin < self.params.n() && is_behind(slot, self.mark(slot))
     }
 
-    /// Whether what a slot delivered isn't shown any more: in root services 3 to 6 that of a past slot isn't.
+    /// Whether what a slot delivered isn't shown any more: in root services 3 to 7 that of a past slot isn't.
     pub(crate) fn hides(&self, slot: &Slot) -> bool
         ensures { result ≡ hides_shown (S.shown self.now.service) self.now.params.n self.now.mode.root slot.now }
     {

@@ -14,12 +14,13 @@ use crate::laws::has_session;
 use crate::making::make;
 use atomic_bcast::{Abc, CmdRoot};
 use binary_consensus::{Bin, BinRoot};
+use direct_atomic::Direct;
 use echo_bcast::Eb;
 use layer_api::{Broadcast, Service};
 use multivalued::{Mvc, MvcRoot};
 use outside::{Buffer, Failed, Sink, write_all};
 use reliable_bcast::{DigestRb, Rb};
-use ritas_base::{DriveWhat, Plan, What};
+use ritas_base::{DriveWhat, Plan, RootService, What};
 use schedule_file::Writer;
 use schedule_plan::drive_forges_nothing;
 use schedule_replay::{ReplayEnd, other_form, show};
@@ -142,11 +143,14 @@ pub fn drive<K: Sink>(alloc: Global, plan: &Plan, sink: &mut K, what: DriveWhat)
     // The text of the plan's schedule is written, or the limit is named that it passes first.
     ensures shows { ShowsPlan K.tells K.taken sink.old sink.new what result plan.now }
 {
-    match plan.mode.root {
-        3 => drive_with::<BinRoot<Bin>, K>(alloc, plan, sink, what),
-        4 => drive_with::<MvcRoot<Mvc<Bin>>, K>(alloc, plan, sink, what),
-        5 => drive_with::<VcRoot<Vc<Mvc<Bin>>>, K>(alloc, plan, sink, what),
-        6 => drive_with::<Abc<Vc<Mvc<Bin>>>, K>(alloc, plan, sink, what),
-        _ => drive_with::<CmdRoot, K>(alloc, plan, sink, what),
+    match plan.mode.service() {
+        RootService::Reliable | RootService::Echo => {
+            drive_with::<CmdRoot, K>(alloc, plan, sink, what)
+        }
+        RootService::Binary => drive_with::<BinRoot<Bin>, K>(alloc, plan, sink, what),
+        RootService::MultiValued => drive_with::<MvcRoot<Mvc<Bin>>, K>(alloc, plan, sink, what),
+        RootService::Vector => drive_with::<VcRoot<Vc<Mvc<Bin>>>, K>(alloc, plan, sink, what),
+        RootService::Atomic => drive_with::<Abc<Vc<Mvc<Bin>>>, K>(alloc, plan, sink, what),
+        RootService::Direct => drive_with::<Direct<Mvc<Bin>>, K>(alloc, plan, sink, what),
     }
 }

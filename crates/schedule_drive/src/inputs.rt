@@ -14,16 +14,16 @@ ghost use Rattle.schedule_stage.specs.Worlds.{world_in};
 use crate::laws::has_session;
 use crate::players::players;
 use layer_api::{Broadcast, Service};
-use ritas_base::{Attack, Bytes, Mem, Plan};
+use ritas_base::{Attack, Bytes, Mem, Mode, Plan, RootService};
 use schedule_plan::correct_of;
 use schedule_stage::{Halt, Stage};
 use std::alloc::Global;
 use world_model::Player;
 
-fn takes_commands(root: u8) -> bool
-    ensures { result ≡ takes_commands root }
+fn takes_commands(mode: Mode) -> bool
+    ensures { result ≡ takes_commands mode.root }
 {
-    root == 1 || root == 2 || root == 6
+    mode.service().takes_commands()
 }
 
 fn add_number(out: &mut Vec<u8>, k: u32) -> Result<(), Mem>
@@ -33,25 +33,35 @@ fn add_number(out: &mut Vec<u8>, k: u32) -> Result<(), Mem>
     Ok(())
 }
 
-fn value_text(alloc: Global, root: u8, v: u32) -> Result<Bytes, Mem>
-    ensures text { IfOk result (λ b. b ≡ value_text root v) }
+fn value_text(alloc: Global, mode: Mode, v: u32) -> Result<Bytes, Mem>
+    ensures text { IfOk result (λ b. b ≡ value_text mode.root v) }
     ensures short { IfOk result (λ b. length b < 2 ^ 16) }
 {
     let mut out = Vec::new(alloc);
-    if root == 3 {
-        out.push((v % 2) as u8)?;
-    } else {
-        add_number(&mut out, v)?;
+    match mode.service() {
+        RootService::Binary => out.push((v % 2) as u8)?,
+        RootService::Reliable
+        | RootService::Echo
+        | RootService::MultiValued
+        | RootService::Vector
+        | RootService::Atomic
+        | RootService::Direct => add_number(&mut out, v)?,
     }
     Ok(Bytes::from_vec(out))
 }
 
-fn command_text(alloc: Global, root: u8, client: u8, request: u32, k: u32) -> Result<Bytes, Mem>
-    ensures text { IfOk result (λ b. b ≡ command_text root client request k) }
+fn command_text(
+    alloc: Global,
+    mode: Mode,
+    client: u8,
+    request: u32,
+    k: u32,
+) -> Result<Bytes, Mem>
+    ensures text { IfOk result (λ b. b ≡ command_text mode.root client request k) }
     ensures short { IfOk result (λ b. length b < 2 ^ 16) }
 {
     let mut out = Vec::new(alloc);
-    if root == 6 {
+    if mode.service().orders_commands() {
         add_number(&mut out, u32::from(client))?;
         add_number(&mut out, request)?;
     }
@@ -63,7 +73,7 @@ fn command_text(alloc: Global, root: u8, client: u8, request: u32, k: u32) -> Re
 fn copies_of(plan: &Plan) -> u8
     ensures { result ≡ copies_of plan.now }
 {
-    if plan.mode.root == 6 {
+    if plan.mode.service().orders_commands() {
         plan.copies.min(correct_of(plan))
     } else {
         1
@@ -94,7 +104,7 @@ fn give_copy<S: Service, E: Broadcast>(
 {
     let client = turn_of(plan, k, 0);
     let at = turn_of(plan, k, behind);
-    let text = command_text(alloc, plan.mode.root, client, k, k)?;
+    let text = command_text(alloc, plan.mode, client, k, k)?;
     stage.give(alloc, Player::Correct(at), text)
 }
 
@@ -145,9 +155,9 @@ fn give_values<S: Service, E: Broadcast>(
         (what : DriveWhat) (steps : List Step) → IsStage m plan.now what stage.old steps
         → Reaches m plan.now what stage.new (reverse (map (value_input plan.now) (range_with_len 0 (correct_of plan.now))) ++ steps) result }
 {
-    let root = plan.mode.root;
+    let mode = plan.mode;
     for i in 0..correct_of(plan) {
-        let text = value_text(alloc, root, u32::from(i) % plan.commands)?;
+        let text = value_text(alloc, mode, u32::from(i) % plan.commands)?;
         stage.give(alloc, Player::Correct(i), text)?;
     }
     Ok(())
@@ -163,7 +173,7 @@ fn give_correct<S: Service, E: Broadcast>(
         (what : DriveWhat) (steps : List Step) → IsStage m plan.now what stage.old steps
         → Reaches m plan.now what stage.new (reverse (correct_inputs plan.now) ++ steps) result }
 {
-    if takes_commands(plan.mode.root) {
+    if takes_commands(plan.mode) {
         return give_commands(alloc, plan, stage);
     }
     if plan.commands == 0 {
@@ -184,23 +194,23 @@ fn give_flipped<S: Service, E: Broadcast>(
         → IsPlayer (world_in m plan.now) (cast_of plan.now.attack) (Face a)
         → Reaches m plan.now what stage.new (reverse (flip_inputs plan.now (Face a)) ++ steps) result }
 {
-    if takes_commands(plan.mode.root) || plan.commands == 0 {
+    if takes_commands(plan.mode) || plan.commands == 0 {
         return Ok(());
     }
-    let text = value_text(alloc, plan.mode.root, u32::from(a / 2) % plan.commands)?;
+    let text = value_text(alloc, plan.mode, u32::from(a / 2) % plan.commands)?;
     stage.give(alloc, Player::Face(a), text)?;
     Ok(())
 }
 
 // The text that one of two faces is given.
-fn own_text(alloc: Global, root: u8, a: u8) -> Result<Bytes, Mem>
-    ensures text { IfOk result (λ b. b ≡ own_text root a) }
+fn own_text(alloc: Global, mode: Mode, a: u8) -> Result<Bytes, Mem>
+    ensures text { IfOk result (λ b. b ≡ own_text mode.root a) }
     ensures short { IfOk result (λ b. length b < 2 ^ 16) }
 {
-    if takes_commands(root) {
-        return command_text(alloc, root, a, 0, u32::from(a));
+    if takes_commands(mode) {
+        return command_text(alloc, mode, a, 0, u32::from(a));
     }
-    value_text(alloc, root, u32::from(a))
+    value_text(alloc, mode, u32::from(a))
 }
 
 // What the attack gives to a player beyond a correct replica's input.
@@ -218,7 +228,7 @@ fn give_face<S: Service, E: Broadcast>(
     match (plan.attack, x) {
         (Attack::Flip, Player::Face(a)) => give_flipped(alloc, plan, stage, a),
         (Attack::TwoFace, Player::Face(a)) => {
-            let text = own_text(alloc, plan.mode.root, a)?;
+            let text = own_text(alloc, plan.mode, a)?;
             stage.give(alloc, x, text)
         }
         _ => Ok(()),

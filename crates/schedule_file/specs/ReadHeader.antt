@@ -1,6 +1,7 @@
 -- Reading the header of a schedule.
 use Rattle.std.specs.Prelude.{ℕ, zero, suc, ◌*◌, ◌^◌, Bool, ◌&&◌, ◌||◌, List, [], ◌∷◌, Result, Ok, nat_lt, nat_le, ◌==◌, if◌then◌else◌}
 use Rattle.ritas_base.specs.Numbers.{Numbers}
+use Rattle.ritas_base.specs.RootServices.{most_root}
 use Rattle.ritas_base.specs.Slots.{within}
 use Rattle.ritas_base.specs.declared.mode.FrameVersion.{FrameVersion}
 use Rattle.ritas_base.specs.declared.mode.FrameVersion.TheVariants.{One, Two}
@@ -32,7 +33,7 @@ heading h = record { session = h.session; version = h.mode.version; p = h.p; roo
 
 -- the root services
 abbrev pub is_root : ℕ → Bool
-is_root root = within 1 6 root
+is_root root = within 1 most_root root
 
 -- the versions of frames, which are the bytes 1 and 2
 abbrev pub is_version : ℕ → Bool

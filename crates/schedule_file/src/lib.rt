@@ -32,7 +32,7 @@
 //! | 5 | session | 8 bytes |
 //! | 13 | n | 1 to 31 |
 //! | 14 | f | n is at least 3f + 1 |
-//! | 15 | root service | 1 to 6 |
+//! | 15 | root service | 1 to 7 |
 //! | 16 | broadcast of VECT | 1 echo, 2 reliable |
 //! | 17 | correct replicas | 4 bytes: bit k stands for replica k, bits below n alone |
 //! | 21 | form of the keys | 0 or 1 |

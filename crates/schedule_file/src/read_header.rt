@@ -8,20 +8,21 @@ ghost use Rattle.schedule_file.specs.FileBytes.{GivesUnlessFailed, bytes_at};
 ghost use Rattle.schedule_file.specs.Place.{spot};
 ghost use Rattle.schedule_file.specs.Spelling.{IsKey, IsRow, AreHeaderKeys, IsHeading};
 ghost use Rattle.ritas_base.specs.Numbers.{IsSession};
+ghost use Rattle.ritas_base.specs.RootServices.{most_root};
 ghost use Rattle.schedule_file.specs.ReadHeader.{heading, is_root, start_at, numbers_at, root_at, vect_at, mask_at, me_at, key_row_at, alone_at, keys_at, header_at};
 
 use crate::fault::FileFault;
 use crate::header::{Header, HeaderKeys};
 use crate::pieces::{Pieces, test};
 use outside::Source;
-use ritas_base::{FrameVersion, Mode, Params, SenderSet, Vect};
+use ritas_base::{FrameVersion, Mode, Params, RootService, SenderSet, Vect};
 
 /// Whether this is one of the root services.
 fn is_root(root: u8) -> bool
     ensures value { result ≡ is_root root }
-    ensures root { IsTrue result → (1 ≤ root) × (root ≤ 6) }
+    ensures root { IsTrue result → (1 ≤ root) × (root ≤ most_root) }
 {
-    matches!(root, 1..=6)
+    RootService::of(root).is_some()
 }
 
 #[tactic(auto, using(outside::specs::FaultsLaws::rose_after), unfolding(crate::specs::ReadHeader::start_at))]
@@ -66,7 +67,7 @@ fn read_numbers<S: Source>(pieces: &mut Pieces, source: &mut S) -> Result<Params
 fn read_root<S: Source>(pieces: &mut Pieces, source: &mut S) -> Result<u8, FileFault>
     ensures exact { S.tells ≡ true → GivesUnlessFailed (λ x. x) result (spot pieces.new (S.left source.new)) (root_at (spot pieces.old (S.left source.old))) }
     ensures one { IfOk result (λ root. is_root root ≡ true) }
-    ensures root { IfOk result (λ root. (1 ≤ root) × (root ≤ 6)) }
+    ensures root { IfOk result (λ root. (1 ≤ root) × (root ≤ most_root)) }
     ensures memory { result ≢ Err FileFault.Mem }
     ensures cause { HasCause (S.faults source.old) (S.faults source.new) (result ≡ Err Read) }
     ensures counts { S.faults source.new ≡ file_faults_after (S.faults source.old) result }

@@ -4,6 +4,7 @@ use Rattle.std.proofs.lemmas.Bool.{cases_lt}
 use Rattle.std.proofs.lemmas.Nat.{mod_below}
 use Rattle.std.proofs.Math.Nat.{add-mod_left, mod-add-mod, mod-eq_of_lt}
 use Rattle.ritas_base.specs.Numbers.{IsSession}
+use Rattle.ritas_base.specs.Slots.{is_atomic}
 use Rattle.ritas_base.specs.declared.plan.Plan.{Plan}
 use Rattle.world_model.specs.declared.player.Player.{Player}
 use Rattle.world_model.specs.declared.player.Player.TheVariants.{Correct, Face}
@@ -32,7 +33,7 @@ turns_apart m k i j order below same =
 
 -- no more copies than correct replicas
 few_copies : (p : Plan) → IsSession p.p → copies_of p ≤ correct_of p
-few_copies p session = go (p.mode.root == 6)
+few_copies p session = go (is_atomic p.mode.root)
   where
     go : (b : Bool) → (if b then min p.copies (correct_of p) else 1) ≤ correct_of p
     go true = omega arith

@@ -1,7 +1,8 @@
 -- The inputs of a plan, which come first.
-use Rattle.std.specs.Prelude.{ℕ, ◌+◌, ◌/◌, ◌%◌, ◌==◌, ◌||◌, Bool, List, [], ◌∷◌, ◌++◌, map, min, if◌then◌else◌}
+use Rattle.std.specs.Prelude.{ℕ, ◌+◌, ◌/◌, ◌%◌, ◌==◌, ◌||◌, Bool, not, List, [], ◌∷◌, ◌++◌, map, min, if◌then◌else◌}
 use Rattle.std.specs.List.{flat_map, range_with_len}
 use Rattle.std.specs.Int.{w32, to_be_bytes}
+use Rattle.ritas_base.specs.Slots.{is_atomic, within}
 use Rattle.ritas_base.specs.declared.plan.Plan.{Plan}
 use Rattle.ritas_base.specs.declared.plan.Attack.{Attack}
 use Rattle.ritas_base.specs.declared.plan.Attack.TheVariants.{TwoFace, Flip}
@@ -17,16 +18,17 @@ number_text k = to_be_bytes w32 k
 abbrev pub value_text : ℕ → ℕ → List ℕ
 value_text root v = if root == 3 then v % 2 ∷ [] else number_text v
 
--- command k of a client: in root services 1 and 2 its number, in root service 6 the client, the request and k
+-- command k of a client: in root services 1 and 2 its number, and in those that order commands the client, the request and k
 abbrev pub command_text : ℕ → ℕ → ℕ → ℕ → List ℕ
-command_text root client request k = if root == 6 then number_text client ++ number_text request ++ number_text k else number_text k
+command_text root client request k = if is_atomic root then number_text client ++ number_text request ++ number_text k else number_text k
 
+-- whether inputs are commands: in root services 3, 4 and 5 each replica proposes one value
 abbrev pub takes_commands : ℕ → Bool
-takes_commands root = root == 1 || (root == 2 || root == 6)
+takes_commands root = not (within 3 5 root)
 
--- to how many correct replicas each command goes: to one, and in root service 6 to as many as the plan says, at most to all
+-- to how many correct replicas each command goes: to one, and where commands are ordered to as many as the plan says, at most to all
 abbrev pub copies_of : Plan → ℕ
-copies_of p = if p.mode.root == 6 then min p.copies (correct_of p) else 1
+copies_of p = if is_atomic p.mode.root then min p.copies (correct_of p) else 1
 
 -- the commands go to the correct replicas in turn: command k to the one at k, and its next copies to those behind
 abbrev pub copy_at : Plan → ℕ → ℕ → Step

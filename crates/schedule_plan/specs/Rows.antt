@@ -73,6 +73,9 @@ mode_5 = record { root = 5; vect = Echo; version = One; low = lit≤ tt; high = 
 abbrev mode_6 : Mode
 mode_6 = record { root = 6; vect = Echo; version = One; low = lit≤ tt; high = lit≤ tt }
 
+abbrev mode_7 : Mode
+mode_7 = record { root = 7; vect = Echo; version = One; low = lit≤ tt; high = lit≤ tt }
+
 -- in four replicas, of which one may be faulty
 abbrev of_four : Mode → Attack → ℕ → Plan
 of_four mode attack many = plan_with 4 1 mode Sweep attack many
@@ -173,6 +176,10 @@ fourth_command : inputs_of (of_four mode_6 Silent 4)
     ≡ Give (Correct 0) (command 0 0) ∷ Give (Correct 1) (command 1 1) ∷ Give (Correct 2) (command 2 2) ∷ Give (Correct 0) (command 0 3) ∷ []
 fourth_command = refl
 
+-- and so it is where commands are ordered by single lists
+copies_of_direct : inputs_of (copied 2 (of_four mode_7 Silent 3)) ≡ inputs_of (copied 2 (of_four mode_6 Silent 3))
+copies_of_direct = refl
+
 -- in another root service each command goes to one replica
 copies_of_one : inputs_of (copied 2 (of_four mode_1 Silent 2)) ≡ inputs_of (of_four mode_1 Silent 2)
 copies_of_one = refl
@@ -192,6 +199,9 @@ flips_commands = refl
 two_clients : inputs_of (of_four mode_6 TwoFace 0)
     ≡ Give (Face 6) (0 ∷ 0 ∷ 0 ∷ 6 ∷ 0 ∷ 0 ∷ 0 ∷ 0 ∷ 0 ∷ 0 ∷ 0 ∷ 6 ∷ []) ∷ Give (Face 7) (0 ∷ 0 ∷ 0 ∷ 7 ∷ 0 ∷ 0 ∷ 0 ∷ 0 ∷ 0 ∷ 0 ∷ 0 ∷ 7 ∷ []) ∷ []
 two_clients = refl
+
+two_direct_clients : inputs_of (of_four mode_7 TwoFace 0) ≡ inputs_of (of_four mode_6 TwoFace 0)
+two_direct_clients = refl
 
 -- each correct replica gets one value, of so many different ones, and the face that exchanges bits that of its replica
 two_bits : inputs_of (of_four mode_3 Flip 2)

@@ -13,7 +13,8 @@ use Rattle.reliable_bcast.specs.Bracha.{bracha}
 use Rattle.reliable_bcast.specs.Digests.{by_digest}
 use Rattle.echo_bcast.specs.Matrix.{echo}
 use Rattle.atomic_bcast.specs.Commands.{commands}
-use Rattle.atomic_bcast.specs.Rounds.{atomic}
+use Rattle.atomic_bcast.specs.VectorRounds.{atomic}
+use Rattle.direct_atomic.specs.Lists.{direct}
 use Rattle.binary_consensus.specs.Consensus.{binary}
 use Rattle.binary_consensus.specs.Root.{binary_root}
 use Rattle.multivalued.specs.Consensus.{multivalued}
@@ -93,6 +94,7 @@ service_of root =
     else if root == 4 then multi_root (multivalued binary)
     else if root == 5 then vector_root (vectors (multivalued binary))
     else if root == 6 then atomic (vectors (multivalued binary))
+    else if root == 7 then direct (multivalued binary)
     else commands
 
 -- the world of a header: the service of its root service, and the broadcasts of its mode

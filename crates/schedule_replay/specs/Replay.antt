@@ -3,7 +3,7 @@ use Rattle.std.specs.Prelude.{◌≡◌, ◌≢◌, ◌⊎◌, ℕ, List, ◌++�
 use Rattle.outside.specs.Faults.{count_after}
 use Rattle.outside.specs.Writing.{TookFront}
 use Rattle.ritas_base.specs.declared.event.Event.{Event}
-use Rattle.ritas_base.specs.Slots.{within}
+use Rattle.ritas_base.specs.Slots.{has_tries}
 use Rattle.schedule_file.specs.declared.fault.FileFault.{FileFault}
 use Rattle.schedule_file.specs.declared.fault.FileFault.TheVariants as faults
 use Rattle.schedule_file.specs.declared.header.Header.{Header}
@@ -35,11 +35,12 @@ text_on what_of.Vectors h w es = vectors_on w es
 abbrev pub text : What → Header → List Event → List ℕ
 text what h es = text_on what h (setting_of h) es
 
--- whether there is such a text of a schedule with this root service: vectors are decided in root services 5 and 6 alone
+-- whether there is such a text of a schedule with this root service: vectors are decided where consensus is tried again, in
+-- root services 5 and 6 alone
 abbrev pub has_text : What → ℕ → Bool
 has_text what_of.Report root = true
 has_text what_of.Frames root = true
-has_text what_of.Vectors root = within 5 6 root
+has_text what_of.Vectors root = has_tries root
 
 -- what is read, where there is such a text; else the header's root service is the fault of what is in its grammar
 abbrev pub unless_none : {Y : Type 0} → What → ℕ → Y → Result Y FileFault

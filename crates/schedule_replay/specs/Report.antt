@@ -1,5 +1,5 @@
 -- The report of a schedule. Lists of events have the newest first.
-use Rattle.std.specs.Prelude.{ℕ, true, false, nat_le, ◌==◌, if◌then◌else◌, ◌%◌, ◌^◌, List, [], ◌∷◌, ◌++◌, length, filter, codes, decimal, Option, Some, None}
+use Rattle.std.specs.Prelude.{ℕ, true, false, nat_le, if◌then◌else◌, ◌%◌, ◌^◌, List, [], ◌∷◌, ◌++◌, length, filter, codes, decimal, Option, Some, None}
 use Rattle.std.specs.List.{flat_map, range_with_len}
 use Rattle.hex.specs.Hex.{encode_lower}
 use Rattle.ritas_base.specs.declared.event.Event.{Event}
@@ -8,7 +8,7 @@ use Rattle.ritas_base.specs.declared.mode.Vect.{Vect}
 use Rattle.ritas_base.specs.declared.mode.Vect.TheVariants.{Echo, Reliable}
 use Rattle.layer_api.specs.Service.{Ending, Undecided, Over, Decided, Bit, Nothing, Value, Spent}
 use Rattle.ritas_base.specs.Limits.{number_limit}
-use Rattle.ritas_base.specs.Slots.{command_slot}
+use Rattle.ritas_base.specs.Slots.{command_slot, is_atomic}
 use Rattle.keyed_channel.specs.KeyRow.{KeyRow}
 use Rattle.ritas_core.specs.Rules.{Rules, seat_of}
 use Rattle.ritas_core.specs.Parts.{Entry, parts}
@@ -123,11 +123,12 @@ rounds_line completed rows = codes "rounds " ++ (decimal completed ++ (codes " r
 abbrev pub log_lines : Rules → List Entry → List ℕ
 log_lines r h = rounds_line (r.service.completed (seat_of r) (parts r h).words) (length (history_rows r h)) ++ row_lines (history_rows r h)
 
--- root services 1 and 2 show what they delivered, root service 6 its command log, and those with one instance what became of it
+-- root services 1 and 2 show what they delivered, those that order commands their command log, and those with one instance
+-- what became of it
 abbrev pub service_lines : Rules → List Entry → List ℕ
 service_lines r h =
     if nat_le r.mode.root 2 then out_lines r h
-    else if r.mode.root == 6 then log_lines r h
+    else if is_atomic r.mode.root then log_lines r h
     else ending_line (r.service.outcome (seat_of r) (parts r h).words)
 
 -- how a replica stands that is in this state, and what its service shows

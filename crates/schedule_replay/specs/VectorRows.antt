@@ -5,7 +5,8 @@ use Rattle.std.specs.Fmt.{digits}
 use Rattle.hex.specs.Hex.{encode_with}
 use Rattle.ritas_base.specs.declared.mode.Vect.TheVariants.{Reliable}
 use Rattle.ritas_base.specs.declared.mode.FrameVersion.TheVariants.{One}
-use Rattle.layer_api.specs.Service.{ServiceRules, LastVector, Undecided, Decided, Value, Spent}
+use Rattle.layer_api.specs.Purpose.{vector_rounds}
+use Rattle.layer_api.specs.Service.{ServiceRules, Orders, LastVector, Undecided, Decided, Value, Spent}
 use Rattle.reliable_bcast.specs.Bracha.{bracha}
 use Rattle.world_model.specs.Audit.{first_broken}
 use Rattle.world_model.specs.World.{Setting, states_of}
@@ -48,6 +49,7 @@ not_yet = refl
 abbrev here : ServiceRules
 here = record {
   serves = λ root. true;
+  purpose = Orders vector_rounds;
   says = λ seat w c. [];
   opens = λ seat w s. true;
   completed = λ seat w. 0;

@@ -16,23 +16,25 @@ use crate::played::load;
 use crate::write::show;
 use atomic_bcast::{Abc, CmdRoot};
 use binary_consensus::{Bin, BinRoot};
+use direct_atomic::Direct;
 use echo_bcast::Eb;
 use layer_api::{Broadcast, Service};
 use multivalued::{Mvc, MvcRoot};
 use outside::{Sink, Source};
 use reliable_bcast::{DigestRb, Rb};
-use ritas_base::{FrameVersion, Mode, Vect, What};
+use ritas_base::{FrameVersion, Mode, RootService, Vect, What};
 use schedule_file::{FileFault, Header, Reader};
 use std::alloc::Global;
 use vector_consensus::{Vc, VcRoot};
 
-// Whether there is such a text of a schedule with this root service. Vectors are decided in root services 5 and 6 alone.
-fn has_text(what: What, root: u8) -> bool
-    ensures { result ≡ has_text what root }
+// Whether there is such a text of a schedule of this mode. Vectors are decided where consensus is tried again, in root services
+// 5 and 6 alone.
+fn has_text(what: What, mode: Mode) -> bool
+    ensures { result ≡ has_text what mode.root }
 {
     match what {
         What::Report | What::Frames => true,
-        What::Vectors => matches!(root, 5..=6),
+        What::Vectors => mode.service().has_tries(),
     }
 }
 
@@ -56,7 +58,7 @@ fn replay_as<S: Service, E: Broadcast, I: Source, K: Sink>(
     ensures shows { I.tells ≡ true → ShowsEvents K.tells K.taken sink.old sink.new what result header
         (setting_by S.rules E.rules header) (asked_behind what header.mode.root (more_events [] reader.old (I.left src.old))) }
 {
-    let is_there = has_text(what, header.mode.root);
+    let is_there = has_text(what, header.mode);
     match load::<S, E, I>(alloc, header, reader, src) {
         Ok(x) if is_there => show(alloc, sink, &x, what),
         Ok(_) => ReplayEnd::File(FileFault::Header(15)),
@@ -69,13 +71,19 @@ fn replay_as<S: Service, E: Broadcast, I: Source, K: Sink>(
 pub fn other_form(mode: &Mode) -> u8
     ensures { result ≡ other_form mode.now }
 {
-    if mode.root == 2 {
-        return 2;
-    }
-    match (mode.vect, mode.version) {
-        (Vect::Echo, _) => 2,
+    let of_vects = match (mode.vect, mode.version) {
+        (Vect::Echo, FrameVersion::One | FrameVersion::Two) => 2,
         (Vect::Reliable, FrameVersion::One) => 1,
         (Vect::Reliable, FrameVersion::Two) => 3,
+    };
+    match mode.service() {
+        RootService::Echo => 2,
+        RootService::Reliable
+        | RootService::Binary
+        | RootService::MultiValued
+        | RootService::Vector
+        | RootService::Atomic
+        | RootService::Direct => of_vects,
     }
 }
 
@@ -124,12 +132,25 @@ fn replay_events<I: Source, K: Sink>(
     ensures shows { I.tells ≡ true → ShowsEvents K.tells K.taken sink.old sink.new what result header
         (setting_of header) (asked_behind what header.mode.root (more_events [] reader.old (I.left src.old))) }
 {
-    match header.mode.root {
-        3 => replay_with::<BinRoot<Bin>, I, K>(alloc, header, reader, src, sink, what),
-        4 => replay_with::<MvcRoot<Mvc<Bin>>, I, K>(alloc, header, reader, src, sink, what),
-        5 => replay_with::<VcRoot<Vc<Mvc<Bin>>>, I, K>(alloc, header, reader, src, sink, what),
-        6 => replay_with::<Abc<Vc<Mvc<Bin>>>, I, K>(alloc, header, reader, src, sink, what),
-        _ => replay_with::<CmdRoot, I, K>(alloc, header, reader, src, sink, what),
+    match header.mode.service() {
+        RootService::Reliable | RootService::Echo => {
+            replay_with::<CmdRoot, I, K>(alloc, header, reader, src, sink, what)
+        }
+        RootService::Binary => {
+            replay_with::<BinRoot<Bin>, I, K>(alloc, header, reader, src, sink, what)
+        }
+        RootService::MultiValued => {
+            replay_with::<MvcRoot<Mvc<Bin>>, I, K>(alloc, header, reader, src, sink, what)
+        }
+        RootService::Vector => {
+            replay_with::<VcRoot<Vc<Mvc<Bin>>>, I, K>(alloc, header, reader, src, sink, what)
+        }
+        RootService::Atomic => {
+            replay_with::<Abc<Vc<Mvc<Bin>>>, I, K>(alloc, header, reader, src, sink, what)
+        }
+        RootService::Direct => {
+            replay_with::<Direct<Mvc<Bin>>, I, K>(alloc, header, reader, src, sink, what)
+        }
     }
 }
 

@@ -26,7 +26,7 @@ use command_log::Log;
 use keyed_channel::Channel;
 use layer_api::{Broadcast, COMMAND_WINDOW, Service};
 use replica::Replica;
-use ritas_base::{Coin, NUMBER_LIMIT, Slot};
+use ritas_base::{Coin, NUMBER_LIMIT, RootService, Slot};
 use ritas_core::{Core, delivered_within};
 use std::alloc::{AllocError, Global};
 use world_model::Audit;
@@ -172,10 +172,12 @@ fn add_service<S: Service, E: Broadcast, C: Coin + Drop>(
         → OnOk result (string_bytes text.new ≡ string_bytes text.old ++ service_lines r st.history) }
 {
     let core = replica.core();
-    match core.mode().root {
-        0..=2 => add_outs(alloc, text, core),
-        6 => add_log(alloc, text, replica),
-        _ => add_ending(alloc, text, core),
+    match core.mode().service() {
+        RootService::Reliable | RootService::Echo => add_outs(alloc, text, core),
+        RootService::Atomic | RootService::Direct => add_log(alloc, text, replica),
+        RootService::Binary | RootService::MultiValued | RootService::Vector => {
+            add_ending(alloc, text, core)
+        }
     }
 }
 

@@ -1,11 +1,12 @@
 //! Tests of `node_session`: sessions of one replica in memory, as a cluster, as a node whose link fails, and as one
 //! that comes back with its journal, whatever call of its disk failed.
 
-ghost use Rattle.std.specs.Prelude.{◌≡◌, length, All, IfOk};
+ghost use Rattle.std.specs.Prelude.{◌≡◌, true, length, All, IfOk};
 ghost use Rattle.cluster_config.specs.Cluster.{cluster_text};
 ghost use Rattle.cluster_config.specs.Node.{node_text};
 ghost use Rattle.cluster_config.specs.Ranges.{FitsNode, FitsCluster};
 ghost use Rattle.outside.specs.MemoryLink.{IsShort};
+ghost use Rattle.ritas_base.specs.Slots.{is_atomic};
 
 use cluster_config::{ClusterConfig, NodeConfig, Request, Requests};
 use event_journal::JournalFault;
@@ -43,7 +44,7 @@ fn peers(alloc: Global) -> Result<Texts, Mem>
 
 // Root service 6.
 fn atomic() -> Mode
-    ensures { result.root ≡ 6 }
+    ensures { is_atomic result.root ≡ true }
 {
     Mode {
         root: 6,
@@ -52,8 +53,20 @@ fn atomic() -> Mode
     }
 }
 
+// Root service 7.
+fn direct() -> Mode
+    ensures { is_atomic result.root ≡ true }
+{
+    Mode {
+        root: 7,
+        vect: Vect::Echo,
+        version: FrameVersion::One,
+    }
+}
+
 // A session of one replica, which is handed client 7's request 1, and is served until it has a row.
-fn cluster(rt: &impl Abort, alloc: Global) -> Result<ClusterConfig, Mem>
+fn cluster(rt: &impl Abort, alloc: Global, mode: Mode) -> Result<ClusterConfig, Mem>
+    requires { is_atomic mode.root ≡ true }
     ensures { IfOk result (λ config. FitsCluster (cluster_text config)) }
 {
     let p = Params::new(1, 0).expect(rt, "numbers");
@@ -67,7 +80,7 @@ fn cluster(rt: &impl Abort, alloc: Global) -> Result<ClusterConfig, Mem>
     Ok(ClusterConfig {
         session: 7,
         p,
-        mode: atomic(),
+        mode,
         master: [0; 32],
         peers: peers(alloc)?,
         limit: 10,
@@ -141,10 +154,13 @@ fn asking(alloc: Global, many: u8, fails: &[u64]) -> Result<MemLink, Mem> {
 fn live_in_cluster<R: Net + Wait + Abort>(
     rt: &R,
     alloc: Global,
+    mode: Mode,
     link: &mut MemLink,
     output: &mut MemSink,
-) -> Result<ServeEnd, Mem> {
-    let config = cluster(rt, alloc)?;
+) -> Result<ServeEnd, Mem>
+    requires { is_atomic mode.root ≡ true }
+{
+    let config = cluster(rt, alloc, mode)?;
     serve_cluster(rt, alloc, config, link, output)
 }
 
@@ -198,13 +214,21 @@ fn wrote_the_same(one: &MemSink, other: &MemSink) -> bool {
 }
 
 // The file has the header, the request that it begins with, its turns, and the end mark. Nobody is replied to.
-#[test]
-fn serves_a_cluster(rt: HostRuntime) -> Result<(), Fail> {
-    let mut link = asking(rt.alloc(), 0, &[])?;
-    let mut output = sink(rt.alloc())?;
-    assert!(rt; live_in_cluster(&rt, rt.alloc(), &mut link, &mut output)? == ServeEnd::Done);
+fn serves_in<R: Net + Wait + Abort>(rt: &R, alloc: Global, mode: Mode) -> Result<(), Mem>
+    requires { is_atomic mode.root ≡ true }
+{
+    let mut link = asking(alloc, 0, &[])?;
+    let mut output = sink(alloc)?;
+    assert!(rt; live_in_cluster(rt, alloc, mode, &mut link, &mut output)? == ServeEnd::Done);
     assert!(rt; count_written(&output) == CLUSTER_HEADER + EVENTS + 1);
     assert!(rt; count_replies(&link) == 0);
+    Ok(())
+}
+
+#[test]
+fn serves_a_cluster(rt: HostRuntime) -> Result<(), Fail> {
+    serves_in(&rt, rt.alloc(), atomic())?;
+    serves_in(&rt, rt.alloc(), direct())?;
     Ok(())
 }
 

@@ -61,8 +61,8 @@ agree_of w es sound one holds =
             asked_given (rules_at w from.0) (history_of w es from.0) (bit_byte b ∷ [])
                 (subst (λ (ws : List Word). Has ws (Ask (bit_byte b ∷ []))) (x.same from.0 from.1) from.2),
           );
-      proposals = λ four i v correct out.
-          let from = one.proposals w.numbers w.mode w.is_correct w.coin x.steps run four i v correct (ap (w.service.outcome (seat_of (rules_at w i))) (x.same i correct) ∙ out) in (
+      proposals = λ a attempt decides i v correct out.
+          let from = one.proposals w.numbers w.mode w.is_correct w.coin x.steps run a attempt decides i v correct (ap (w.service.outcome (seat_of (rules_at w i))) (x.same i correct) ∙ out) in (
             from.0,
             from.1,
             asked_given (rules_at w from.0) (history_of w es from.0) v (subst (λ (ws : List Word). Has ws (Ask v)) (x.same from.0 from.1) from.2),
@@ -73,10 +73,10 @@ agree_of w es sound one holds =
           one.last_vectors w.numbers w.mode w.is_correct w.coin x.steps run i j u v left right
           (ap (w.service.last (seat_of (rules_at w i))) (x.same i left) ∙ last_i) (ap (w.service.last (seat_of (rules_at w j))) (x.same j right) ∙ last_j) same;
       proposed = proposed;
-      entries = λ five i k v e left right out entry.
+      entries = λ a decides i k v e left right out entry.
           asked_given (rules_at w k) (history_of w es k) e
           (subst (λ (ws : List Word). Has ws (Ask e)) (x.same k right)
-          (one.entries w.numbers w.mode w.is_correct w.coin x.steps run five i k v e left right
+          (one.entries w.numbers w.mode w.is_correct w.coin x.steps run a decides i k v e left right
           (ap (w.service.outcome (seat_of (rules_at w i))) (x.same i left) ∙ out) entry));
       last_entries = entries_of_last w es sound audit.1 values one x run;
       appended = ids_appended w es sound audit.1 values one x run;

@@ -15,7 +15,7 @@ use Rattle.ritas_base.specs.declared.mode.FrameVersion.{FrameVersion}
 use Rattle.ritas_base.specs.declared.mode.Vect.TheVariants.{Reliable}
 use Rattle.ritas_base.specs.declared.mode.FrameVersion.TheVariants.{One, Two}
 use Rattle.layer_api.specs.Entries.{EntryInput, OfMessage, OfEntry}
-use Rattle.layer_api.specs.Service.{ServiceRules, Undecided, IsPart}
+use Rattle.layer_api.specs.Service.{ServiceRules, Carries, Undecided, IsPart}
 use Rattle.command_log.specs.Rows.{count_origins, Row, command_rows}
 use Rattle.keyed_channel.specs.Frames.{sealed}
 use Rattle.keyed_channel.specs.declared.frame.OpenFault.TheVariants.{Short}
@@ -42,6 +42,7 @@ use Rattle.world_model.specs.FramesMade.{MadeTable, made_in, made_at, with_frame
 abbrev pub silent : ServiceRules
 silent = record {
   serves = λ root. true;
+  purpose = Carries;
   says = λ seat w c. [];
   opens = λ seat w s. true;
   completed = λ seat w. 0;

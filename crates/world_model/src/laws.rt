@@ -70,7 +70,8 @@ pub fn prefix_holds()
 /// - *From proposals*: a bit or a value that one of them decided in an instance inside was proposed to it by a correct
 ///   replica, which started it at its first slot there. In a vector that one of them decided the entry of a correct replica
 ///   is its proposal, which is its input where the vector is what its root service decides. Each identifier of a log was
-///   appended by a round, the first whose vector has it in f + 1 entries, and a correct replica proposed it in that round.
+///   appended by a round, the first whose decision wants it: a vector wants what stands in f + 1 of its entries, and a list
+///   what stands in it. And a correct replica proposed it in that round.
 /// - *Never spent*: no vector consensus that is the one instance of a correct replica, or is in the round where its atomic
 ///   broadcast stands, ends without a vector. And where the last vectors that two of them decided are of one round, they
 ///   are one vector, decided in one attempt.
