@@ -1,5 +1,8 @@
 //! Connections that come in at the doors, and those that are begun.
 
+ghost use Rattle.std.specs.Prelude.{◌≢◌, [], None, OnErr};
+ghost use Rattle.tcp_link.specs.Waits.{first_retry};
+
 use crate::conn::Conn;
 use crate::dials::{Dial, begin, watched};
 use crate::doors::Arrival;
@@ -17,7 +20,9 @@ use std::net::{Net, SocketAddr};
 
 impl Sockets {
     /// Accepts connections at the doors on the list.
-    pub(crate) fn accept_all(&mut self, alloc: Global, registry: &Registry) -> Result<(), Mem> {
+    pub(crate) fn accept_all(&mut self, alloc: Global, registry: &Registry) -> Result<(), Mem>
+        ensures memory { OnErr result (self.old.open_doors.items ≢ []) }
+    {
         for _ in 0..self.open_doors.len() {
             let Some(number) = self.open_doors.pop_front() else {
                 break;
@@ -174,7 +179,9 @@ impl Sockets {
         rt: &R,
         alloc: Global,
         registry: &Registry,
-    ) -> Result<(), Mem> {
+    ) -> Result<(), Mem>
+        ensures memory { let r = self.old.retries in OnErr result (first_retry r.clock r.waiting.items r.looks.items ≢ None) }
+    {
         for _ in 0..self.retries.len() {
             match self.retries.next() {
                 Some(Retry::Dial(dial)) => self.dial(rt, alloc, registry, dial)?,
