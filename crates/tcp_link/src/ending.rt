@@ -54,10 +54,14 @@ impl Sockets {
     }
 
     /// A connection ends.
-    pub(crate) fn end(&mut self, token: usize) -> Result<(), Mem> {
-        if let Some(conn) = self.conns.get_mut(token) {
-            conn.side.change(Change::Ends);
-        }
+    pub(crate) fn end(&mut self, token: usize) -> Result<(), Mem>
+        ensures memory { OnErr result (conn_at self.old.conns.places token ≢ None) }
+    {
+        let Some(conn) = self.conns.get_mut(token) else {
+            // It is gone.
+            return Ok(());
+        };
+        conn.side.change(Change::Ends);
         self.settle(token)
     }
 

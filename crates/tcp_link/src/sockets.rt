@@ -1,6 +1,7 @@
 //! The sockets of a link, and what is to be done with them.
 
-ghost use Rattle.std.specs.Prelude.{◌≡◌, ◌≢◌, ◌⊎◌, ◌++◌, ◌∷◌, [], true, false, None, OnOk, OnErr, if◌then◌else◌};
+ghost use Rattle.std.specs.Prelude.{◌≡◌, ◌≢◌, ◌⊎◌, ◌<◌, ◌++◌, ◌∷◌, [], true, false, None, OnOk, OnErr, vec_len, if◌then◌else◌};
+ghost use Rattle.mio.specs.Event.{event_token};
 ghost use Rattle.tcp_link.specs.Connections.{conn_at};
 ghost use Rattle.tcp_link.specs.Names.{dial_again};
 ghost use Rattle.tcp_link.specs.Queues.{with_told};
@@ -95,7 +96,9 @@ impl Sockets {
     }
 
     // Takes note of an event at a door.
-    fn note_door(&mut self, number: usize) -> Result<(), Mem> {
+    fn note_door(&mut self, number: usize) -> Result<(), Mem>
+        ensures memory { OnErr result (number < vec_len self.old.doors) }
+    {
         match self.doors.get_mut(number) {
             Some(door) => list(&mut door.is_listed, number, &mut self.open_doors),
             // There is no such door.
@@ -104,7 +107,10 @@ impl Sockets {
     }
 
     /// Takes note of an event.
-    pub(crate) fn note(&mut self, event: &Event) -> Result<(), Mem> {
+    pub(crate) fn note(&mut self, event: &Event) -> Result<(), Mem>
+        ensures memory { let token = (event_token event.now).0 in
+            OnErr result ((token < vec_len self.old.doors) ⊎ (conn_at self.old.conns.places token ≢ None)) }
+    {
         let token = event.token().0;
         if let Some(number) = door_of(token) {
             return self.note_door(number);
