@@ -24,7 +24,8 @@ pub(crate) fn item(alloc: Global, from: u8, kind: Kind, value: &[u8]) -> Result<
     })
 }
 
-// Whether replica 1 takes an item, says a message of this kind alone or none at all, and then delivers or doesn't.
+// Whether replica 1 takes an item, says a message of this kind alone or none at all, and then
+// delivers or doesn't.
 pub(crate) fn follows<B: Broadcast>(
     alloc: Global,
     broadcast: &mut B,
