@@ -96,7 +96,8 @@ impl<S: Service, E: Broadcast, C: Coin + Drop> Replica<S, E, C> {
     fn feed(&mut self, alloc: Global) -> Result<(), Mem>
         ensures ok { OnOk result (FeedsLog (with_keys S.stands S.rules S.shown E.stands E.rules E.shown C.bits) self.old self.new) }
         ensures err { OnErr result (FeedsSome (with_keys S.stands S.rules S.shown E.stands E.rules E.shown C.bits) self.old self.new) }
-        ensures memory { OnErr result (HasUnfed (with_keys S.stands S.rules S.shown E.stands E.rules E.shown C.bits) self.old) }
+        ensures memory { let m = with_keys S.stands S.rules S.shown E.stands E.rules E.shown C.bits in
+            OnErr result (HasUnfed m self.old) }
         ensures only { FeedsOnly self.old self.new }
     {
         history_laws();
@@ -121,7 +122,8 @@ impl<S: Service, E: Broadcast, C: Coin + Drop> Replica<S, E, C> {
             × FeedsLog (with_keys S.stands S.rules S.shown E.stands E.rules E.shown C.bits) self.old self.new) }
         ensures err { OnErr result ((out.new.items ≡ out.old.items) × (self.new.sent ≡ self.old.sent)
             × FeedsSome (with_keys S.stands S.rules S.shown E.stands E.rules E.shown C.bits) self.old self.new) }
-        ensures memory { OnErr result (MayWant (with_keys S.stands S.rules S.shown E.stands E.rules E.shown C.bits) self.old msgs.items) }
+        ensures memory { let m = with_keys S.stands S.rules S.shown E.stands E.rules E.shown C.bits in
+            OnErr result (MayWant m self.old msgs.items) }
         ensures same { SameCore self.old self.new }
     {
         self.feed(alloc)?;

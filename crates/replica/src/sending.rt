@@ -29,8 +29,10 @@ fn is_receiver(to: To, me: u8, j: u8) -> bool
     reaches(to, usize::from(j)) && j != me
 }
 
-// Seals a message for each replica that it reaches but this one. The frames share the body. That memory isn't said to be short where it
-// is ample is shown by `drives_with_ample_memory` of `stack_tests`, and at the sizes that a node reaches by `cases/floods`.
+// Seals a message for each replica that it reaches but this one. The frames share the body.
+//
+// That memory isn't said to be short where it is ample is shown by `drives_with_ample_memory` of
+// `stack_tests`, and at the sizes that a node reaches by `cases/floods`.
 fn seal_each(
     alloc: Global,
     channel: &Channel,

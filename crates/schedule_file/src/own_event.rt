@@ -48,7 +48,8 @@ fn kind_in(alloc: Global, me: u8, kind: u8, rest: &[u8]) -> Result<Option<(Event
 }
 
 /// The event of replica `me`, a frame, an input or a turn, with which the bytes begin, and how many bytes it has; `None` where
-/// they begin with no such event (`own_event_laws`). The one error is want of memory, which comes only where the event holds a text.
+/// they begin with no such event (`own_event_laws`). The one error is want of memory, which comes
+/// only where the event holds a text.
 pub fn read_event(alloc: Global, _n: u8, me: u8, bytes: &[u8]) -> Result<Option<(Event, u32)>, Mem>
     requires { me < _n }
     ensures event { IfOk result (λ o. o ≡ own_event me bytes.now) }

@@ -66,7 +66,8 @@ fn read_frame<S: Source>(
 ) -> Result<Event, FileFault>
     ensures exact { S.tells ≡ true → GivesUnlessFailed (λ x. x) result (spot pieces.new (S.left source.new)) (frame_at scope begin (spot pieces.old (S.left source.old))) }
     ensures event { IfOk result (IsInScope scope) }
-    ensures memory { S.tells ≡ true → result ≡ Err FileFault.Mem → reads_text (frame_at scope begin (spot pieces.old (S.left source.old))) ≡ true }
+    ensures memory { S.tells ≡ true → result ≡ Err FileFault.Mem
+        → reads_text (frame_at scope begin (spot pieces.old (S.left source.old))) ≡ true }
     ensures cause { HasCause (S.faults source.old) (S.faults source.new) (result ≡ Err Read) }
     ensures counts { S.faults source.new ≡ file_faults_after (S.faults source.old) result }
 {
@@ -85,7 +86,8 @@ fn read_input<S: Source>(
 ) -> Result<Event, FileFault>
     ensures exact { S.tells ≡ true → GivesUnlessFailed (λ x. x) result (spot pieces.new (S.left source.new)) (input_read_at scope begin (spot pieces.old (S.left source.old))) }
     ensures event { IfOk result (IsInScope scope) }
-    ensures memory { S.tells ≡ true → result ≡ Err FileFault.Mem → reads_text (input_read_at scope begin (spot pieces.old (S.left source.old))) ≡ true }
+    ensures memory { S.tells ≡ true → result ≡ Err FileFault.Mem
+        → reads_text (input_read_at scope begin (spot pieces.old (S.left source.old))) ≡ true }
     ensures cause { HasCause (S.faults source.old) (S.faults source.new) (result ≡ Err Read) }
     ensures counts { S.faults source.new ≡ file_faults_after (S.faults source.old) result }
 {
@@ -139,7 +141,8 @@ fn read_sealed<S: Source>(
 ) -> Result<Event, FileFault>
     ensures exact { S.tells ≡ true → GivesUnlessFailed (λ x. x) result (spot pieces.new (S.left source.new)) (sealed_at scope begin (spot pieces.old (S.left source.old))) }
     ensures event { IfOk result (IsInScope scope) }
-    ensures memory { S.tells ≡ true → result ≡ Err FileFault.Mem → reads_text (sealed_at scope begin (spot pieces.old (S.left source.old))) ≡ true }
+    ensures memory { S.tells ≡ true → result ≡ Err FileFault.Mem
+        → reads_text (sealed_at scope begin (spot pieces.old (S.left source.old))) ≡ true }
     ensures cause { HasCause (S.faults source.old) (S.faults source.new) (result ≡ Err Read) }
     ensures counts { S.faults source.new ≡ file_faults_after (S.faults source.old) result }
 {
@@ -159,7 +162,8 @@ fn read_kind<S: Source>(
 ) -> Result<Event, FileFault>
     ensures exact { S.tells ≡ true → GivesUnlessFailed (λ x. x) result (spot pieces.new (S.left source.new)) (kind_at scope begin kind (spot pieces.old (S.left source.old))) }
     ensures event { IfOk result (IsInScope scope) }
-    ensures memory { S.tells ≡ true → result ≡ Err FileFault.Mem → reads_text (kind_at scope begin kind (spot pieces.old (S.left source.old))) ≡ true }
+    ensures memory { S.tells ≡ true → result ≡ Err FileFault.Mem
+        → reads_text (kind_at scope begin kind (spot pieces.old (S.left source.old))) ≡ true }
     ensures cause { HasCause (S.faults source.old) (S.faults source.new) (result ≡ Err Read) }
     ensures counts { S.faults source.new ≡ file_faults_after (S.faults source.old) result }
 {
@@ -173,7 +177,8 @@ fn read_kind<S: Source>(
     }
 }
 
-/// The next event, or `None` at the end mark that the end of the file follows. Memory is wanted only for the text of an event.
+/// The next event, or `None` at the end mark that the end of the file follows. Memory is wanted
+/// only for the text of an event.
 #[tactic(auto, using(outside::specs::FaultsLaws::rose_after), unfolding(crate::specs::ReadEvents::event_at))]
 pub fn read_event<S: Source>(
     alloc: Global,
@@ -183,7 +188,8 @@ pub fn read_event<S: Source>(
 ) -> Result<Option<Event>, FileFault>
     ensures exact { S.tells ≡ true → GivesUnlessFailed (λ x. x) result (spot pieces.new (S.left source.new)) (event_at scope (spot pieces.old (S.left source.old))) }
     ensures event { IfOk result (λ o. IfSome o (IsInScope scope)) }
-    ensures memory { S.tells ≡ true → result ≡ Err FileFault.Mem → reads_text_next (event_at scope (spot pieces.old (S.left source.old))) ≡ true }
+    ensures memory { S.tells ≡ true → result ≡ Err FileFault.Mem
+        → reads_text_next (event_at scope (spot pieces.old (S.left source.old))) ≡ true }
     ensures cause { HasCause (S.faults source.old) (S.faults source.new) (result ≡ Err Read) }
     ensures counts { S.faults source.new ≡ file_faults_after (S.faults source.old) result }
 {

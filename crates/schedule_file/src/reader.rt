@@ -86,7 +86,8 @@ impl Reader {
 
         // Memory is wanted only for a text of the next event, which is whole and right.
         ensures memory { self.old.stage ≡ Open → S.tells ≡ true → result ≡ Err FileFault.Mem
-            → reads_text_next (event_at self.old.scope (spot self.old.held (S.left src.old))) ≡ true }
+            → reads_text_next (event_at self.old.scope (spot self.old.held (S.left src.old)))
+            ≡ true }
 
         // Where the file ended or has a fault, the answer stays, and the source isn't read.
         ensures ended { self.old.stage ≡ Ended → result ≡ Ok None }

@@ -185,7 +185,8 @@ impl Sockets {
         alloc: Global,
         registry: &Registry,
     ) -> Result<(), Mem>
-        ensures memory { let r = self.old.retries in OnErr result (first_retry r.clock r.waiting.items r.looks.items ≢ None) }
+        ensures memory { let r = self.old.retries in
+            OnErr result (first_retry r.clock r.waiting.items r.looks.items ≢ None) }
     {
         for _ in 0..self.retries.len() {
             match self.retries.next() {

@@ -106,7 +106,8 @@ impl Sockets {
         ensures again { OnOk result (self.new.retries.waiting.items
             ≡ self.old.retries.waiting.items ++ redial self.old.retries.clock (dial_again self.old.is_client conn.side.dial)) }
         ensures memory { OnErr result ((conn.side.newer ≢ None)
-            ⊎ ((told_at_end conn.side.stage conn.side.has_given conn.side.whom ≢ None) ⊎ (dial_again self.old.is_client conn.side.dial ≢ None))) }
+            ⊎ ((told_at_end conn.side.stage conn.side.has_given conn.side.whom ≢ None)
+            ⊎ (dial_again self.old.is_client conn.side.dial ≢ None))) }
     {
         if let Some(newer) = conn.side.newer {
             self.release(newer)?;

@@ -28,7 +28,8 @@ impl Side {
     pub(crate) fn list_piece(&mut self, agenda: &mut Agenda, token: usize) -> Result<(), Mem>
         ensures side { OnOk result (self.new ≡ side_listed self.old (gives_of self.old)) }
         ensures agenda { OnOk result (agenda.new ≡ queue_listed agenda.old self.old.listed.gives token (gives_of self.old)) }
-        ensures memory { OnErr result ((self.old.listed.gives ≡ false) × (has_piece (gives_of self.old) ≡ true)) }
+        ensures memory { OnErr result ((self.old.listed.gives ≡ false)
+            × (has_piece (gives_of self.old) ≡ true)) }
     {
         let gives = self.gives();
         if !self.listed.gives {

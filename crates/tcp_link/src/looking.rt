@@ -54,8 +54,10 @@ impl Side {
 
     /// A client that sends no more is looked at from then on. The one error is want of memory.
     pub(crate) fn look_at_half(&mut self, retries: &mut Retries, token: usize) -> Result<(), Mem>
-        ensures side { OnOk result (self.new ≡ (if is_half self.old.stage then on_looks self.old else self.old)) }
-        ensures memory { OnErr result ((is_half self.old.stage ≡ true) × (self.old.listed.looks ≡ false)) }
+        ensures side { OnOk result (self.new
+            ≡ (if is_half self.old.stage then on_looks self.old else self.old)) }
+        ensures memory { OnErr result ((is_half self.old.stage ≡ true)
+            × (self.old.listed.looks ≡ false)) }
     {
         if self.stage.is_half() {
             self.look_later(retries, token)?;

@@ -44,8 +44,8 @@ impl Side {
 }
 
 impl Sockets {
-    /// The pause before a node is written to is over. What was kept for it meanwhile goes out: so `a_watch_is_patient` of `cases/watch`
-    /// shows.
+    /// The pause before a node is written to is over. What was kept for it meanwhile goes out: so
+    /// `a_watch_is_patient` of `cases/watch` shows.
     pub(crate) fn write_rested(&mut self, token: usize) -> Result<(), Mem>
         ensures memory { OnErr result (conn_at self.old.conns.places token ≢ None) }
     {

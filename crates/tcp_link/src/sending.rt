@@ -15,7 +15,8 @@ impl Sockets {
     /// where the connection was begun and doesn't stand yet. A frame is also dropped where it is longer than the peer takes.
     pub(crate) fn send(&mut self, at: u8, peer: u8, bytes: &[u8]) -> Result<(), Mem>
         requires { length bytes.now < 2 ^ 16 }
-        ensures memory { OnErr result (sent_through self.old.is_client at (length bytes.now) ≢ None) }
+        ensures memory { OnErr result
+            (sent_through self.old.is_client at (length bytes.now) ≢ None) }
     {
         let Some(at) = sent_through(self.is_client, at, bytes.len()) else {
             return Ok(());

@@ -109,7 +109,8 @@ impl Sockets {
     /// Takes note of an event.
     pub(crate) fn note(&mut self, event: &Event) -> Result<(), Mem>
         ensures memory { let token = (event_token event.now).0 in
-            OnErr result ((token < vec_len self.old.doors) ⊎ (conn_at self.old.conns.places token ≢ None)) }
+            OnErr result ((token < vec_len self.old.doors)
+            ⊎ (conn_at self.old.conns.places token ≢ None)) }
     {
         let token = event.token().0;
         if let Some(number) = door_of(token) {
@@ -224,7 +225,8 @@ impl Sockets {
     pub(crate) fn closed(&mut self, told: Option<News>, dial: Option<Dial>) -> Result<(), Mem>
         ensures told { OnOk result (self.new.agenda ≡ with_told self.old.agenda told) }
         ensures again { OnOk result (self.new.retries.waiting.items ≡ self.old.retries.waiting.items ++ redial self.old.retries.clock (dial_again self.old.is_client dial)) }
-        ensures memory { OnErr result ((told ≢ None) ⊎ (dial_again self.old.is_client dial ≢ None)) }
+        ensures memory { OnErr result ((told ≢ None)
+            ⊎ (dial_again self.old.is_client dial ≢ None)) }
     {
         self.agenda.add_told(told)?;
         match dial_again(self.is_client, dial) {
