@@ -58,7 +58,7 @@ fn no_rows(alloc: Global) -> Result<Vec<Option<LogRow>>, Mem>
     Ok(places)
 }
 
-// The fault that a row of a replica is another than it gave before, if it is at one of the positions.
+// The fault that a replica gave another row before, if it did at a position.
 fn change_fault(changed: Option<u32>) -> Option<PieceFault>
     ensures fault { result ≡ change_faulty changed }
     ensures memory { result ≢ Some PieceFault.Mem }

@@ -170,8 +170,8 @@ fn row_at_front(alloc: Global, bytes: &[u8]) -> Result<LogRow, Mem>
     })
 }
 
-/// Appends so many rows, which are whole there. The one error is want of memory, which comes only where there is a
-/// row.
+/// Appends so many rows, which are whole there. The one error is want of memory, which comes only
+/// where there is a row.
 pub(crate) fn read_rows(
     alloc: Global,
     rows: &mut Vec<LogRow>,
