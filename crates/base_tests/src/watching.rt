@@ -61,7 +61,8 @@ fn ended<R: Net + Wait + Abort>(
     Ok((end, observer.len()))
 }
 
-// Each node is asked for position 0, and those whose first two pieces are taken again. The row that is wanted is there then.
+// Each node is asked for position 0, and those whose first two pieces are taken again. The row that
+// is wanted is there then.
 #[test]
 fn two_nodes_give_a_row(rt: HostRuntime) -> Result<(), Fail> {
     let mut link = MemLink::new(rt.alloc(), &items(rt.alloc())?, &[])?;

@@ -8,7 +8,11 @@ use Rattle.schedule_file.specs.FileBytes.{limit}
 use Rattle.schedule_file.specs.OwnEvents.{own_event}
 use Rattle.schedule_file.specs.Spelling.{event_text, sized}
 use Rattle.event_journal.specs.Journal.{IsRecord, IsUnmade, OpensAs, closed_front, records}
-use Rattle.event_journal.specs.Appending.{AllOpen}
+use Rattle.event_journal.specs.Appending.{AllOpen, JournalState, JournalStandsFor}
+
+-- the file that a disk holds, as it is read
+abbrev pub file_seen : List DiskState → List ℕ
+file_seen told = (disk_state_of told).seen
 
 -- an event of so many bytes, behind which a gate is left
 abbrev pub whole_in : ℕ → ℕ → Option (Event × ℕ) → Option (Event × ℕ)
@@ -62,6 +66,11 @@ pub record AtGate (me : ℕ) (file : List ℕ) (at : ℕ) (es : List Event) : Ty
   pub within : at < length file
 
 -- ---- opening
+
+-- the journal stands for these events, and every image that a stop may leave opens as them
+abbrev pub OpensJournal : ℕ → List ℕ → List DiskState → JournalState → List Event → Type 0
+OpensJournal me head told journal es =
+    JournalStandsFor journal head es × AllOpen me head es (disk_state_of told)
 
 -- the two files open as the same events
 pub record OpensAlike (me : ℕ) (head file other : List ℕ) : Type 0 where

@@ -5,8 +5,7 @@ ghost use Rattle.outside.specs.Disks.{LeavesOnly, at_rest, disk_state_of};
 ghost use Rattle.schedule_file.specs.FileBytes.{limit};
 ghost use Rattle.std.specs.List.{AllByRecursion};
 ghost use Rattle.event_journal.specs.Journal.{IsRecord, IsUnmade, Opens, OpensAs, closed_front};
-ghost use Rattle.event_journal.specs.Appending.{AllOpen, JournalStandsFor};
-ghost use Rattle.event_journal.specs.Reading.{Clears, IsBroken, HasClosedGate, IsForeign, OpensAsKept, Makes, OpensLike, RestsClear};
+ghost use Rattle.event_journal.specs.Reading.{Clears, IsBroken, HasClosedGate, IsForeign, OpensAsKept, OpensJournal, Makes, OpensLike, RestsClear, file_seen};
 
 use crate::fault::JournalFault;
 use crate::journal::Journal;
@@ -100,8 +99,8 @@ fn open_file<D: Disk>(
 ) -> Result<(Journal, Vec<Event>), JournalFault>
     requires me_below { me < slice_index head.now 13 }
     requires short { length file.now ≤ limit }
-    ensures opened { D.tells ≡ true → disk_state_of (D.told disk.old) ≡ at_rest file.now → IfOk result (λ x. JournalStandsFor x.0 head.now (reverse x.1.items)
-        × AllOpen me head.now (reverse x.1.items) (disk_state_of (D.told disk.new))) }
+    ensures opened { D.tells ≡ true → disk_state_of (D.told disk.old) ≡ at_rest file.now
+        → IfOk result (λ x. OpensJournal me head.now (D.told disk.new) x.0 (reverse x.1.items)) }
     ensures gives { IfOk result (λ x. OpensAs me head.now file.now (reverse x.1.items)) }
     ensures live { IfOk result (λ x. (x.0.me ≡ me) × (x.0.live ≡ true)) }
     ensures since { D.tells ≡ true → disk_state_of (D.told disk.old) ≡ at_rest file.now
@@ -143,23 +142,32 @@ pub fn open_journal<D: Disk>(
     requires me_below { me < slice_index head.now 13 }
 
     // From Ok on, every image is a made file and opens as the events that were given.
-    ensures opened { D.tells ≡ true → IfOk result (λ x. JournalStandsFor x.0 head.now (reverse x.1.items)
-        × AllOpen me head.now (reverse x.1.items) (disk_state_of (D.told disk.new))) }
+    ensures opened { D.tells ≡ true
+        → IfOk result (λ x. OpensJournal me head.now (D.told disk.new) x.0 (reverse x.1.items)) }
     ensures live { IfOk result (λ x. (x.0.me ≡ me) × (x.0.live ≡ true)) }
     ensures own { IfOk result (λ x. AllByRecursion (IsRecord me) x.1.items) }
 
     // The file that was there opened as these events.
-    ensures gives { D.tells ≡ true → IfOk result (λ x. OpensAs me head.now (disk_state_of (D.told disk.old)).seen (reverse x.1.items)) }
+    ensures gives { D.tells ≡ true
+        → IfOk result (λ x. OpensAs me head.now (file_seen (D.told disk.old)) (reverse x.1.items)) }
 
     // At each moment every image is one from before, or opens as one does.
-    ensures since { D.tells ≡ true → LeavesOnly (OpensAsKept me head.now (disk_state_of (D.told disk.old))) (D.told disk.old) (D.told disk.new) }
+    ensures since { D.tells ≡ true
+        → LeavesOnly (OpensAsKept me head.now (disk_state_of (D.told disk.old)))
+        (D.told disk.old) (D.told disk.new) }
 
-    ensures foreign { D.tells ≡ true → (p : ℕ) → result ≡ Err (JournalFault.Foreign p) → IsForeign head.now (disk_state_of (D.told disk.old)).seen p }
-    ensures broken { D.tells ≡ true → (p : ℕ) → result ≡ Err (JournalFault.Broken p) → IsBroken me head.now (disk_state_of (D.told disk.old)).seen p }
-    ensures full { (x : ℕ) → result ≡ Err (JournalFault.Full x) → (x ≡ limit + 1) × (D.tells ≡ true → limit < length (disk_state_of (D.told disk.old)).seen) }
-    ensures memory { D.tells ≡ true → result ≡ Err JournalFault.Mem → 0 < length (disk_state_of (D.told disk.old)).seen }
-    ensures cause { HasCause (D.faults disk.old) (D.faults disk.new) (result ≡ Err JournalFault.Disk) }
-    ensures counts { CountsFault (D.faults disk.old) (D.faults disk.new) result (result ≡ Err JournalFault.Disk) }
+    ensures foreign { D.tells ≡ true → (p : ℕ) → result ≡ Err (JournalFault.Foreign p)
+        → IsForeign head.now (file_seen (D.told disk.old)) p }
+    ensures broken { D.tells ≡ true → (p : ℕ) → result ≡ Err (JournalFault.Broken p)
+        → IsBroken me head.now (file_seen (D.told disk.old)) p }
+    ensures full { (x : ℕ) → result ≡ Err (JournalFault.Full x) → (x ≡ limit + 1)
+        × (D.tells ≡ true → limit < length (file_seen (D.told disk.old))) }
+    ensures memory { D.tells ≡ true → result ≡ Err JournalFault.Mem
+        → 0 < length (file_seen (D.told disk.old)) }
+    ensures cause { HasCause (D.faults disk.old) (D.faults disk.new)
+        (result ≡ Err JournalFault.Disk) }
+    ensures counts { CountsFault (D.faults disk.old) (D.faults disk.new) result
+        (result ≡ Err JournalFault.Disk) }
 {
     match disk.sync() {
         Ok(()) => {}

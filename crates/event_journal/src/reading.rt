@@ -1,11 +1,11 @@
 //! Reading a journal's file.
-ghost use Rattle.std.specs.Prelude.{◌≡◌, ◌≢◌, ◌<◌, ◌≤◌, ◌+◌, ◌∷◌, ◌↔◌, ℕ, List, true, length, take, drop, reverse, slice_index, Err, Ok, IfOk, OnOk, IsErr, IsTrue, MatchOption, MatchResult};
+ghost use Rattle.std.specs.Prelude.{◌≡◌, ◌≢◌, ◌<◌, ◌≤◌, ◌+◌, ◌∷◌, ◌↔◌, ℕ, List, true, length, take, drop, reverse, slice_index, Err, Ok, IfOk, OnOk, OnErr, IsErr, IsTrue, MatchOption, MatchResult};
 ghost use Rattle.outside.specs.Faults.{CountsFault, HasCause};
-ghost use Rattle.outside.specs.Disks.{disk_state_of};
 ghost use Rattle.ritas_base.specs.declared.event.Event.{Event};
 ghost use Rattle.schedule_file.specs.FileBytes.{limit};
 ghost use Rattle.event_journal.specs.Journal.{IsUnmade};
-ghost use Rattle.event_journal.specs.Reading.{AtGate, NoRecord, record_in};
+ghost use Rattle.event_journal.specs.Reading.{AtGate, NoRecord, file_seen, record_in};
+ghost use Rattle.schedule_file.specs.OwnEvents.{has_own_text, own_event};
 
 use crate::fault::JournalFault;
 use outside::{Disk, Failed};
@@ -15,15 +15,20 @@ use std::alloc::Global;
 
 /// All bytes of a disk's file, if it has at most 67,108,864.
 pub(crate) fn read_file<D: Disk>(alloc: Global, disk: &mut D) -> Result<Vec<u8>, JournalFault>
-    ensures whole { D.tells ≡ true → IfOk result (λ v. v.items ≡ (disk_state_of (D.told disk.old)).seen) }
+    ensures whole { D.tells ≡ true → IfOk result (λ v. v.items ≡ file_seen (D.told disk.old)) }
     ensures short { IfOk result (λ v. length v.items ≤ limit) }
-    ensures full { (x : ℕ) → result ≡ Err (JournalFault.Full x) → (x ≡ limit + 1) × (D.tells ≡ true → limit < length (disk_state_of (D.told disk.old)).seen) }
-    ensures others { (p : ℕ) → (result ≢ Err (JournalFault.Foreign p)) × (result ≢ Err (JournalFault.Broken p)) }
+    ensures full { (x : ℕ) → result ≡ Err (JournalFault.Full x) → (x ≡ limit + 1)
+        × (D.tells ≡ true → limit < length (file_seen (D.told disk.old))) }
+    ensures others { (p : ℕ) → (result ≢ Err (JournalFault.Foreign p))
+        × (result ≢ Err (JournalFault.Broken p)) }
     ensures same { D.tells ≡ true → D.told disk.new ≡ D.told disk.old }
     // An empty file takes no memory.
-    ensures memory { D.tells ≡ true → result ≡ Err JournalFault.Mem → 0 < length (disk_state_of (D.told disk.old)).seen }
-    ensures cause { HasCause (D.faults disk.old) (D.faults disk.new) (result ≡ Err JournalFault.Disk) }
-    ensures counts { CountsFault (D.faults disk.old) (D.faults disk.new) result (result ≡ Err JournalFault.Disk) }
+    ensures memory { D.tells ≡ true → result ≡ Err JournalFault.Mem
+        → 0 < length (file_seen (D.told disk.old)) }
+    ensures cause { HasCause (D.faults disk.old) (D.faults disk.new)
+        (result ≡ Err JournalFault.Disk) }
+    ensures counts { CountsFault (D.faults disk.old) (D.faults disk.new) result
+        (result ≡ Err JournalFault.Disk) }
 {
     let mut file = Vec::new(alloc);
     let mut piece = [0; 4096];
@@ -47,7 +52,8 @@ pub(crate) fn is_unmade(file: &[u8]) -> bool
 // The event of the record behind an open gate, and how many bytes it has.
 fn record_in(alloc: Global, n: u8, me: u8, bytes: &[u8]) -> Result<Option<(Event, u32)>, Mem>
     requires { me < n }
-    ensures { IfOk result (λ o. o ≡ record_in me bytes.now) }
+    ensures event { IfOk result (λ o. o ≡ record_in me bytes.now) }
+    ensures memory { OnErr result (has_own_text (own_event me (drop 2 bytes.now)) ≡ true) }
 {
     let [high, low, rest @ ..] = bytes else {
         return Ok(None);

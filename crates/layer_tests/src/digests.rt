@@ -1,10 +1,9 @@
 //! A test of reliable broadcast with digests: its answers and messages where the value comes first.
 
-use crate::votes::{SLOT, item};
-use crate::zeros::ZeroTagger;
-use layer_api::{Broadcast, Heard};
+use crate::votes::{SLOT, follows, item};
+use layer_api::Broadcast;
 use reliable_bcast::DigestRb;
-use ritas_base::{Kind, Msg, Params};
+use ritas_base::{Kind, Params};
 
 // The digest of each value.
 const DIGEST: [u8; 32] = [0; 32];
@@ -25,18 +24,10 @@ fn follows_the_rules(rt: HostRuntime) {
         (3, Kind::Ready, &DIGEST, None, true),
     ];
     let mut rb = DigestRb::new(alloc, &p, 1, SLOT).expect(&rt, "new");
-    let mut out: Vec<Msg> = Vec::new(alloc);
     for (from, kind, value, said, delivers) in table {
         let item = item(alloc, from, kind, value).expect(&rt, "item");
-        let answer = rb
-            .take(alloc, &ZeroTagger { me: 1 }, &item, &mut out)
-            .expect(&rt, "take");
-        assert!(rt; answer == Heard::Took, "answer to {from}");
-        assert!(rt;
-            out.pop().map(|m| m.kind) == said && out.is_empty(),
-            "said to {from}"
-        );
-        assert!(rt; rb.delivered().is_some() == delivers, "delivered at {from}");
+        let follows = follows(alloc, &mut rb, &item, said, delivers).expect(&rt, "take");
+        assert!(rt; follows, "item of {from}");
     }
     assert!(rt;
         rb.delivered() == Some(b"a".as_slice()) && rb.live(),

@@ -24,6 +24,21 @@ pub(crate) fn item(alloc: Global, from: u8, kind: Kind, value: &[u8]) -> Result<
     })
 }
 
+// Whether replica 1 takes an item, says a message of this kind alone or none at all, and then
+// delivers or doesn't.
+pub(crate) fn follows<B: Broadcast>(
+    alloc: Global,
+    broadcast: &mut B,
+    item: &Item,
+    said: Option<Kind>,
+    delivers: bool,
+) -> Result<bool, Mem> {
+    let mut out: Vec<Msg> = Vec::new(alloc);
+    let answer = broadcast.take(alloc, &ZeroTagger { me: 1 }, item, &mut out)?;
+    let is_said = out.pop().map(|m| m.kind) == said && out.is_empty();
+    Ok(answer == Heard::Took && is_said && broadcast.delivered().is_some() == delivers)
+}
+
 // Replica 1 of 4, one of which may be faulty: each item with the answer, what is said, and whether it delivers.
 #[test]
 fn follows_the_rules(rt: HostRuntime) {
@@ -39,18 +54,10 @@ fn follows_the_rules(rt: HostRuntime) {
         (3, Kind::Ready, None, true),
     ];
     let mut rb = Rb::new(alloc, &p, 1, SLOT).expect(&rt, "new");
-    let mut out: Vec<Msg> = Vec::new(alloc);
     for (from, kind, said, delivers) in table {
         let item = item(alloc, from, kind, b"a").expect(&rt, "item");
-        let answer = rb
-            .take(alloc, &ZeroTagger { me: 1 }, &item, &mut out)
-            .expect(&rt, "take");
-        assert!(rt; answer == Heard::Took, "answer to {from}");
-        assert!(rt;
-            out.pop().map(|m| m.kind) == said && out.is_empty(),
-            "said to {from}"
-        );
-        assert!(rt; rb.delivered().is_some() == delivers, "delivered at {from}");
+        let follows = follows(alloc, &mut rb, &item, said, delivers).expect(&rt, "take");
+        assert!(rt; follows, "item of {from}");
     }
     assert!(rt; rb.delivered() == Some(b"a".as_slice()), "the value");
 }

@@ -1,10 +1,10 @@
 -- How watching goes on and ends.
 use Rattle.std.specs.Prelude.{is_some, ◌&&◌, nat_le}
-use Rattle.std.proofs.Common.{◌≡◌, ℕ, ◌≤◌, ◌<◌, List, [], ◌∷◌, ◌++◌, length, Bool, true, false, Option, Some, None, Ok, Err, refl, sym, ap, ◌∙◌, arith, inl, inr}
+use Rattle.std.proofs.Common.{◌≡◌, ℕ, ◌≤◌, ◌<◌, List, [], ◌∷◌, ◌++◌, length, Bool, true, Option, Some, None, Ok, Err, refl, sym, ap, ◌∙◌, arith, inl, inr}
 use Rattle.std.proofs.lemmas.Bool.{le-leb, lt-leb}
 use Rattle.ritas_base.specs.Numbers.{Numbers}
 use Rattle.outside.specs.Faults.{Rose}
-use Rattle.outside.specs.LinkCalls.{TookBack, LinkDid}
+use Rattle.outside.specs.LinkCalls.{LinkDid}
 use Rattle.outside.specs.LinkCallsLaws.{back_none, back_all}
 use Rattle.outside.specs.Links.{LinkAct, Gives, faults_after}
 use Rattle.outside.specs.declared.link.FaultCounts.{FaultCounts}
@@ -19,7 +19,7 @@ use Rattle.observer.specs.Standing.{Watcher, StandsForGifts}
 use Rattle.request_submit.specs.Submitting.{message_sent_to}
 use Rattle.log_watch.specs.declared.end.WatchEnd.{WatchEnd}
 use Rattle.log_watch.specs.declared.end.WatchEnd.TheVariants as ends
-use Rattle.log_watch.specs.Watching.{gifts_of, log_after, begun, asked_next, query_to, watching_acts, reaches, StopsWatching, HasWatchCause, WatchingEndsSo, Watches}
+use Rattle.log_watch.specs.Watching.{gifts_of, log_after, begun, asked_next, query_to, watching_acts, StopsWatching, HasWatchCause, WatchingEndsSo, Watches}
 use Rattle.log_watch.specs.Waiting.{IsWatchEndOf, AwaitsRows}
 
 same_failed : {a b : FaultCounts} → a ≡ b → a.failed ≡ b.failed

@@ -1,7 +1,6 @@
 -- Worked rows: four nodes, of which one may be faulty, and row 0 of the log: command 0 of replica 0, request 1 of
 -- client 7, "hi".
-use Rattle.std.specs.Prelude.{◌≡◌, ℕ, Bool, true, false, List, [], ◌∷◌, codes, length, Some, None, refl}
-use Rattle.std.proofs.Common.{arith}
+use Rattle.std.specs.Prelude.{◌≡◌, ℕ, true, false, List, [], ◌∷◌, codes, length, None, refl}
 use Rattle.ritas_base.specs.Numbers.{Numbers}
 use Rattle.outside.specs.Links.{Starts, Sends, Gives}
 use Rattle.outside.specs.declared.link.LinkItem.{LinkItem}

@@ -1,5 +1,5 @@
 //! Asking nodes for the rows of their logs, and taking what they reply.
-ghost use Rattle.std.specs.Prelude.{◌≡◌, ◌≢◌, ◌∷◌, [], ℕ, List, IfOk, OnOk, OnErr, MatchResult};
+ghost use Rattle.std.specs.Prelude.{◌≡◌, ◌≢◌, ◌∷◌, [], ℕ, List, None, IfOk, OnOk, OnErr, MatchResult};
 ghost use Rattle.ritas_base.specs.Numbers.{Numbers};
 ghost use Rattle.outside.specs.Links.{LinkAct};
 ghost use Rattle.outside.specs.declared.link.FaultCounts.{FaultCounts};
@@ -37,6 +37,10 @@ fn observe(alloc: Global, observer: &mut Observer, item: &LinkItem) -> Result<Op
     ensures stands { (p : Numbers) (items : List LinkItem) → StandsForGifts p (gifts_of p items) observer.old
         → OnOk result (StandsForGifts p (gifts_of p (item.now ∷ items)) observer.new) }
     ensures kept { OnErr result (observer.new ≡ observer.old) }
+    // Memory is wanted only for a piece that is taken.
+    ensures memory { (p : Numbers) (items : List LinkItem)
+        → StandsForGifts p (gifts_of p items) observer.old
+        → OnErr result (asked_next p items item.now ≢ None) }
 {
     match item {
         LinkItem::Reply { from, bytes } => match observer.piece(alloc, *from, bytes.as_slice()) {

@@ -1,6 +1,6 @@
 -- A piece, read from the left: what its bytes say, and where they are wrong.
 use Rattle.std.specs.Prelude.{◌≡◌, ℕ, zero, suc, ◌+◌, ◌-◌, ◌<◌, ◌≤◌, ◌==◌, Bool, ◌&&◌, nat_le, nat_lt, List, [], ◌∷◌, length, take, drop, slice_index, Option, Some, None, if◌then◌else◌}
-use Rattle.std.specs.Int.{w16, w32, from_be_bytes}
+use Rattle.std.specs.Int.{w16, from_be_bytes}
 use Rattle.std.specs.Option.{option_or}
 use Rattle.client_port.specs.Messages.{four_bytes_at}
 use Rattle.ritas_base.specs.Limits.{number_limit, longest_payload}

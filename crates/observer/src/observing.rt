@@ -1,11 +1,11 @@
 //! The observer: its log, and the rows that wait for it to come to their positions.
 
-ghost use Rattle.std.specs.Prelude.{◌≡◌, ℕ, ◌+◌, ◌⊎◌, List, [], ◌∷◌, length, Some, None, IfOk, OnOk, IfErr, OnErr, IfNone, slice_index_or};
+ghost use Rattle.std.specs.Prelude.{◌≡◌, ◌≢◌, ℕ, ◌+◌, ◌⊎◌, List, [], ◌∷◌, length, Some, None, Err, IfOk, OnOk, IfErr, OnErr, IfNone, slice_index_or};
 ghost use Rattle.std.specs.Option.{option_copied};
 ghost use Rattle.ritas_base.specs.Numbers.{Numbers};
 ghost use Rattle.command_log.specs.Rows.{row_at};
 ghost use Rattle.observer.specs.Reading.{piece_in};
-ghost use Rattle.observer.specs.Watching.{Gift, observed, piece_fault};
+ghost use Rattle.observer.specs.Watching.{Gift, observed, change_faulty, piece_fault};
 ghost use Rattle.observer.specs.Standing.{StandsForGifts, CanTakePiece, all_places};
 
 use crate::changed::changed;
@@ -58,6 +58,17 @@ fn no_rows(alloc: Global) -> Result<Vec<Option<LogRow>>, Mem>
     Ok(places)
 }
 
+// The fault that a replica gave another row before, if it did at a position.
+fn change_fault(changed: Option<u32>) -> Option<PieceFault>
+    ensures fault { result ≡ change_faulty changed }
+    ensures memory { result ≢ Some PieceFault.Mem }
+{
+    match changed {
+        Some(at) => Some(PieceFault::Changed(at)),
+        None => None,
+    }
+}
+
 impl Observer {
     /// An observer of the logs of so many replicas, of which at most f are faulty. It has no rows yet. The one error
     /// is want of memory.
@@ -91,6 +102,7 @@ impl Observer {
         ensures exact { (p : Numbers) (h : List Gift) → StandsForGifts p h self.now
             → result ≡ piece_fault p (observed p h) from bytes.now }
         ensures none { IfNone result (CanTakePiece self.now.numbers.n (length self.now.rows) from bytes.now) }
+        ensures memory { result ≢ Some PieceFault.Mem }
     {
         if from >= self.n {
             return Some(PieceFault::NoSuchReplica);
@@ -104,17 +116,14 @@ impl Observer {
         if count > 0 && u64::from(first) + u64::from(count) > u64::from(len) + u64::from(WINDOW) {
             return Some(PieceFault::Ahead(len));
         }
-        match changed(
+        change_fault(changed(
             self.places.as_slice(),
             from,
             len,
             first,
             count,
             &bytes[PIECE_FRONT..],
-        ) {
-            Some(at) => Some(PieceFault::Changed(at)),
-            None => None,
-        }
+        ))
     }
 
     /// Takes a piece that a replica gave, and answers how many rows it enters.
@@ -131,6 +140,9 @@ impl Observer {
         ensures wrong { (p : Numbers) (h : List Gift) → StandsForGifts p h self.old
             → IfErr result (λ fault.
             (fault ≡ PieceFault.Mem) ⊎ (piece_fault p (observed p h) from bytes.now ≡ Some fault)) }
+        // Memory is wanted only for a piece without a fault.
+        ensures memory { (p : Numbers) (h : List Gift) → StandsForGifts p h self.old
+            → result ≡ Err PieceFault.Mem → piece_fault p (observed p h) from bytes.now ≡ None }
         ensures count { IfOk result (λ count. count + length self.old.rows ≡ length self.new.rows) }
         ensures kept { OnErr result (self.new ≡ self.old) }
     {

@@ -1,6 +1,6 @@
 //! A piece, read from the left.
 
-ghost use Rattle.std.specs.Prelude.{◌≡◌, ℕ, ◌+◌, ◌<◌, ◌≤◌, List, ◌++◌, length, take, drop, None, IfOk, OnOk, IfSome, IfNone, MatchOption};
+ghost use Rattle.std.specs.Prelude.{◌≡◌, ℕ, ◌+◌, ◌<◌, ◌≤◌, List, ◌++◌, length, take, drop, None, IfOk, OnOk, OnErr, IfSome, IfNone, MatchOption};
 ghost use Rattle.command_log.specs.Pieces.{row_front, piece_front, longest_log_piece};
 ghost use Rattle.observer.specs.Reading.{two_at, row_at_front, rows_at_front, payload_size, row_left, rows_left, front_left, piece_left, form_fault, row_count_in, AreWhole, IsWhole};
 
@@ -170,7 +170,8 @@ fn row_at_front(alloc: Global, bytes: &[u8]) -> Result<LogRow, Mem>
     })
 }
 
-/// Appends so many rows, which are whole there. The one error is want of memory.
+/// Appends so many rows, which are whole there. The one error is want of memory, which comes only
+/// where there is a row.
 pub(crate) fn read_rows(
     alloc: Global,
     rows: &mut Vec<LogRow>,
@@ -178,7 +179,8 @@ pub(crate) fn read_rows(
     bytes: &[u8],
 ) -> Result<(), Mem>
     requires { AreWhole count bytes.now }
-    ensures { OnOk result (rows.new.items ≡ rows.old.items ++ rows_at_front count bytes.now) }
+    ensures rows { OnOk result (rows.new.items ≡ rows.old.items ++ rows_at_front count bytes.now) }
+    ensures memory { OnErr result (0 < count) }
 {
     if count == 0 {
         return Ok(());

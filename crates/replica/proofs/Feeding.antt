@@ -1,9 +1,9 @@
 -- The log of a replica after an entry of its core.
-use Rattle.std.proofs.Common.{◌≡◌, ℕ, ◌+◌, ◌<◌, ◌≤◌, List, [], ◌∷◌, ◌++◌, length, reverse, drop, sym, ◌∙◌, ap, ap₂, subst, arith}
+use Rattle.std.proofs.Common.{◌≡◌, ◌≢◌, ℕ, ◌+◌, ◌<◌, ◌≤◌, refl, List, [], ◌∷◌, ◌++◌, length, reverse, drop, sym, ◌∙◌, ap, ap₂, subst, arith}
 use Rattle.std.specs.List.{AllByRecursion, slice_range}
 use Rattle.std.proofs.lemmas.List.Folds.{drop_split}
 use Rattle.std.proofs.Math.Seq.{drop-append_seam, drop-length}
-use Rattle.std.proofs.lemmas.List.{reverse-append, reverse-reverse, length-reverse, length-append, append-nil}
+use Rattle.std.proofs.lemmas.List.{reverse-append, reverse-reverse, length-reverse, length-append, length-drop, append-nil}
 use Rattle.ritas_base.specs.declared.item.Msg.{Msg}
 use Rattle.ritas_base.specs.declared.id.Id.{Id}
 use Rattle.layer_api.specs.OneValue.{ValueLaws}
@@ -41,6 +41,11 @@ rest_of done ids fed within is =
     is
     ∙ sym (drop_split done fed (length done) within ∙ ap (λ (t : List Id). slice_range done fed (length done) ++ t) (drop-length done)
     ∙ append-nil (slice_range done fed (length done)))
+
+-- where something is left, there are more than were entered
+pub more_left : (done ids : List Id) (fed : ℕ) → ids ≡ drop fed done → ids ≢ [] → fed < length done
+more_left done [] fed is some = absurd (some refl)
+more_left done (x ∷ ids) fed is some = omega (arith, ap length is, length-drop fed done)
 
 -- the identifiers that a core's service answers
 pub done_by : {S E C : Type 0} (m : Meaning S E C KeyRow) (core : Core S E C KeyRow) (r : Rules) (st : CoreState) → CoreStands m core r st →

@@ -153,7 +153,7 @@ revived_is st what live lost =
 -- the core took an entry, and the replica is stopped for want of memory
 stops_runs_out : {S E C : Type 0} (m : Meaning S E C KeyRow) (old new : Replica S E C) (core : Core S E C KeyRow) (what : What) (call : ReplicaCall) (ms : List Msg) (before after : List OutFrame) (r : Rules) (k : KeyRow) (st : CoreState) →
     StandsGoing m old r k st → ReplicaStands m old r k st → tagger_of core ≡ k → IsCall r k st call what → calls.Moves m old.core core what [] ms (Ok answers.Took) r st
-    → ReplicaStops m (with_core old core) new before after → ReplicaRunsOut (ReplicaStands m) new call before after r k st
+    → ReplicaStops m (with_core old core) new ms before after → ReplicaRunsOut (ReplicaStands m) new call before after r k st
 stops_runs_out {S = S} {E = E} {C = C} m old new core what call ms before after r k st on stands keys call_is did stops = elim (moved_view r st what) [
   | inl enters ↦ record {
     out = stops.out;

@@ -1,7 +1,7 @@
 -- What one message more adds to the frames and to the counts.
-use Rattle.std.proofs.Common.{◌≡◌, ℕ, ◌+◌, ◌*◌, ◌/◌, ◌<◌, ◌≤◌, ◌%◌, ◌^◌, true, false, cond, List, [], ◌∷◌, ◌++◌, map, length, slice_index, sym, ◌∙◌, ap, arith, append_assoc, append-nil, add-zero, length-append}
+use Rattle.std.proofs.Common.{◌≡◌, ℕ, ◌+◌, ◌*◌, ◌/◌, ◌<◌, ◌≤◌, ◌%◌, ◌^◌, true, false, cond, List, [], ◌∷◌, ◌++◌, map, length, slice_index, refl, sym, ◌∙◌, ap, subst, arith, append_assoc, append-nil, add-zero, length-append}
 use Rattle.std.specs.Prelude.{EachIndex}
-use Rattle.std.proofs.Math.Nat.{add-mul-mod_self_right, mod-add-div'}
+use Rattle.std.proofs.Math.Nat.{add-mul-mod_self_right, mod-add-div', mod-eq_of_lt}
 use Rattle.std.proofs.lemmas.List.Elements.{filter-append}
 use Rattle.ritas_base.specs.declared.item.Msg.{Msg}
 use Rattle.ritas_base.specs.Messages.{reaches}
@@ -9,7 +9,10 @@ use Rattle.keyed_channel.specs.KeyRow.{KeyRow}
 use Rattle.ritas_core.specs.Order.{sent_to}
 use Rattle.replica.specs.Out.{OutFrame}
 use Rattle.replica.specs.Frames.{frame_for, receivers, frames_of}
-use Rattle.replica.specs.Sending.{Sends, raised_at, counts_with}
+use Rattle.replica.specs.Sending.{AreCounts, Sends, raised_at, counts_with}
+use Rattle.replica.specs.Steps.{CountsFrames, PutsOut}
+use Rattle.replica.specs.declared.replica.Replica.{Replica}
+use Rattle.ritas_core.specs.Shown.{tagger_of}
 
 -- counts that are alike everywhere are one
 same_counts : (f g : ℕ → ℕ) → ((j : ℕ) → f j ≡ g j) → f ≡ g
@@ -30,6 +33,22 @@ counts_append count xs ys =
 
 counts_none : (count : ℕ → ℕ) → counts_with count [] ≡ count
 counts_none count = same_counts _ _ (λ j. add-zero (count j))
+
+-- where there is no message, no frame is made, and the counts stand
+pub counts_nothing : (k : KeyRow) (count : ℕ → ℕ) (xs : List ℕ) (sent : ℕ) (out : List OutFrame) → AreCounts k.n xs count → sent < 2 ^ 64
+    → CountsFrames k count [] xs sent sent out out
+counts_nothing k count xs sent out are low = record {
+  frames = sym (append-nil out);
+  each = subst (λ (f : ℕ → ℕ). AreCounts k.n xs f) (sym (counts_none count)) are;
+  all = let low' : sent + 0 < 2 ^ 64 = omega arith in sym (mod-eq_of_lt low' ∙ add-zero sent);
+}
+
+pub puts_nothing : {S E C : Type 0} (s : Replica S E C) (ms : List Msg) (out : List OutFrame) → ms ≡ [] → s.sent < 2 ^ 64 → PutsOut s s ms out out
+puts_nothing s ms out none low = subst (λ (l : List Msg). PutsOut s s l out out) (sym none) (record {
+  core = refl;
+  halted = refl;
+  counts = λ count are. counts_nothing (tagger_of s.core) count s.counts s.sent out are low;
+})
 
 -- the frames of one message
 abbrev pub frames_for : KeyRow → (ℕ → ℕ) → Msg → List OutFrame

@@ -1,5 +1,5 @@
 -- What the parts of a call on a replica do: a frame is read, and what the core answers and puts out is passed on.
-use Rattle.std.specs.Prelude.{◌≡◌, ℕ, ◌+◌, ◌%◌, ◌^◌, true, List, [], ◌∷◌, ◌++◌, length, Result, Ok, Err}
+use Rattle.std.specs.Prelude.{◌≡◌, ◌≢◌, ◌⊎◌, ℕ, ◌+◌, ◌%◌, ◌^◌, ◌<◌, true, List, [], ◌∷◌, ◌++◌, length, Result, Ok, Err}
 use Rattle.ritas_base.specs.declared.item.Item.{Item}
 use Rattle.ritas_base.specs.declared.item.Msg.{Msg}
 use Rattle.frame_codec.specs.declared.fault.BodyFault.{BodyFault}
@@ -23,7 +23,7 @@ use Rattle.replica.specs.declared.refusal.Refusal.TheVariants as refusals
 use Rattle.replica.specs.declared.replica.Replica.{Replica}
 use Rattle.replica.specs.Frames.{frames_of}
 use Rattle.replica.specs.Sending.{AreCounts, counts_with}
-use Rattle.replica.specs.CommandRows.{Follows, LiesBetween}
+use Rattle.replica.specs.CommandRows.{Follows, LiesBetween, ids_at}
 use Rattle.replica.specs.Handling.{ReplicaCall}
 use Rattle.replica.specs.Replica.{ReplicaStands}
 use Rattle.replica.specs.Stands.{ReplicaDoesAll}
@@ -86,18 +86,28 @@ pub record FeedsLog {S E C : Type 0} (m : Meaning S E C KeyRow) (old new : Repli
       → Follows r h old.log old.fed → Follows r (e ∷ h) new.log new.fed
   pub some : FeedsSome m old new
 
+-- the service appended identifiers that weren't entered yet
+abbrev pub HasUnfed : {S E C : Type 0} → Meaning S E C KeyRow → Replica S E C → Type 0
+HasUnfed m old = (r : Rules) (st : CoreState) → CoreStands m old.core r st → st.live ≡ true
+    → old.fed < length (ids_at r st.history)
+
+-- memory may be wanted: there is something to be entered, or to be sealed
+abbrev pub MayWant : {S E C : Type 0} → Meaning S E C KeyRow → Replica S E C → List Msg → Type 0
+MayWant m old ms = HasUnfed m old ⊎ (ms ≢ [])
+
 -- for want of memory none went out, and the replica is stopped
-pub record ReplicaStops {S E C : Type 0} (m : Meaning S E C KeyRow) (old new : Replica S E C) (before after : List OutFrame) : Type 0 where
+pub record ReplicaStops {S E C : Type 0} (m : Meaning S E C KeyRow) (old new : Replica S E C) (ms : List Msg) (before after : List OutFrame) : Type 0 where
   pub core : new.core ≡ old.core
   pub halted : new.stopped ≡ true
   pub sent : new.sent ≡ old.sent
   pub out : after ≡ before
   pub some : FeedsSome m old new
+  pub wanted : MayWant m old ms
 
 -- each outcome
 abbrev pub ReplicaFinishes : {S E C : Type 0} → Meaning S E C KeyRow → Replica S E C → Replica S E C → Result Answer CoreFault → List Msg → List OutFrame → List OutFrame → Result Answer Refusal → Type 0
 ReplicaFinishes m old new (Ok answers.Took) ms before after (Ok answer) = (answer ≡ answers.Took) × PutsOut old new ms before after × FeedsLog m old new
-ReplicaFinishes m old new (Ok answers.Took) ms before after (Err fault) = (fault ≡ refusals.Core faults.Mem) × ReplicaStops m old new before after
+ReplicaFinishes m old new (Ok answers.Took) ms before after (Err fault) = (fault ≡ refusals.Core faults.Mem) × ReplicaStops m old new ms before after
 ReplicaFinishes m old new (Ok answer) ms before after result = (result ≡ Ok answer) × KeepsReplica old new before after
 ReplicaFinishes m old new (Err fault) ms before after result = (result ≡ Err (refusals.Core fault)) × KeepsReplica old new before after
 

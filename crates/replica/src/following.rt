@@ -1,13 +1,13 @@
 //! How the log of commands follows the identifier log.
 
-ghost use Rattle.std.specs.Prelude.{◌≡◌, ◌+◌, ◌<◌, true, List, ◌∷◌, ◌++◌, length, reverse, OnOk, OnErr};
+ghost use Rattle.std.specs.Prelude.{◌≡◌, ◌≢◌, ◌+◌, ◌<◌, true, false, List, [], ◌∷◌, ◌++◌, length, reverse, OnOk, OnErr};
 ghost use Rattle.std.specs.List.{AllByRecursion};
 ghost use Rattle.layer_api.specs.Service.{IsPart};
 ghost use Rattle.ritas_core.specs.Rules.{Rules};
 ghost use Rattle.ritas_core.specs.Machine.{CoreState};
 ghost use Rattle.ritas_core.specs.Stands.{CoreStands};
 ghost use Rattle.ritas_base.specs.declared.id.Id.{Id};
-ghost use Rattle.command_log.specs.Rows.{CommandEntry, entry_of_id, entries_of_log, command_rows};
+ghost use Rattle.command_log.specs.Rows.{CommandEntry, entry_of_id, entries_of_log, command_rows, client_of, request_of, has_row};
 ghost use Rattle.command_log.specs.Standing.{StandsFor};
 ghost use Rattle.replica.specs.Replica.{with_keys};
 ghost use Rattle.replica.specs.CommandRows.{command_of, HasCommand};
@@ -31,6 +31,11 @@ fn follow_one<S: Service, E: Broadcast, C: Coin + Drop>(
         → HasCommand r st.history id → length log.old.rows < 4294967295
         → (es : List CommandEntry) → StandsFor log.old es → StandsFor log.new (entry_of_id (command_of r st.history) id ∷ es)) }
     ensures err { OnErr result (log.new.rows ≡ log.old.rows) }
+    // Memory is wanted only for a command whose client and request have no row.
+    ensures memory { let m = with_keys S.stands S.rules S.shown E.stands E.rules E.shown C.bits in
+        OnErr result ((r : Rules) (st : CoreState) → CoreStands m core.now r st → st.live ≡ true
+        → (has : HasCommand r st.history id)
+        → has_row log.old.rows (client_of has.command) (request_of has.command) ≡ false) }
     ensures f { log.new.f ≡ log.old.f }
 {
     let Some(command) = core.delivered(&Slot::command(id.origin, id.num)) else {
@@ -62,6 +67,7 @@ pub(crate) fn follow<S: Service, E: Broadcast, C: Coin + Drop>(
         → StandsFor log.old (entries_of_log (command_of r st.history) xs)
         → IsPart (command_rows log.old.f (command_of r st.history) xs) log.new.rows
         × IsPart log.new.rows (command_rows log.old.f (command_of r st.history) (reverse ids.now ++ xs))) }
+    ensures memory { OnErr result (ids.now ≢ []) }
     ensures f { log.new.f ≡ log.old.f }
 {
     for id in ids {

@@ -28,7 +28,7 @@ pub struct Replica<S: Service, E: Broadcast, C: Coin + Drop> {
 }
 
 impl<S: Service, E: Broadcast, C: Coin + Drop> Replica<S, E, C> {
-    ghost use Rattle.std.specs.Prelude.{◌≡◌, ℕ, [], IfOk, replicate, ◌%◌, ◌^◌, true, OnOk, OnErr, ◌⊎◌};
+    ghost use Rattle.std.specs.Prelude.{◌≡◌, ◌≢◌, ℕ, [], IfOk, replicate, ◌%◌, ◌^◌, true, OnOk, OnErr, ◌⊎◌};
     ghost use Rattle.keyed_channel.specs.Keyed.{tags_of};
     ghost use Rattle.keyed_channel.specs.KeyRow.{KeyRow};
     ghost use Rattle.ritas_core.specs.Rules.{Rules, other_form, casts_by};
@@ -38,7 +38,7 @@ impl<S: Service, E: Broadcast, C: Coin + Drop> Replica<S, E, C> {
     ghost use Rattle.replica.specs.Stands.{ReplicaDoesAll, DoesOpened, frames_made};
     ghost use Rattle.replica.specs.Replica.{ReplicaStands, StandsAhead, with_keys};
     ghost use Rattle.replica.specs.Isolation.{IsIsolated, IsOpenedIsolated};
-    ghost use Rattle.replica.specs.Steps.{ReadsOpened, PutsOut, SameRest, SameCore, FeedsOnly, FeedsSome, FeedsLog, ReplicaFinishes, Seals};
+    ghost use Rattle.replica.specs.Steps.{ReadsOpened, PutsOut, SameRest, SameCore, FeedsOnly, FeedsSome, FeedsLog, HasUnfed, MayWant, ReplicaFinishes, Seals};
     ghost use Rattle.layer_api.specs.Service.{IsPart};
     ghost use Rattle.replica.specs.CommandRows.{history_rows};
 
@@ -77,13 +77,18 @@ impl<S: Service, E: Broadcast, C: Coin + Drop> Replica<S, E, C> {
     ) -> Result<(), Mem>
         ensures ok { OnOk result (PutsOut self.old self.new msgs.items out.old.items out.new.items) }
         ensures err { OnErr result ((out.new.items ≡ out.old.items) × (self.new.sent ≡ self.old.sent)) }
+        ensures memory { OnErr result (msgs.items ≢ []) }
         ensures same { SameRest self.old self.new }
     {
+        let sent = self.sent;
+        if msgs.is_empty() {
+            return Ok(());
+        }
         let mut made = Vec::new(alloc);
         send(alloc, self.core.tagger(), &mut self.counts, msgs, &mut made)?;
         let number = made.len() as u64;
         out.append(&mut made)?;
-        self.sent = self.sent.wrapping_add(number);
+        self.sent = sent.wrapping_add(number);
         Ok(())
     }
 
@@ -91,6 +96,8 @@ impl<S: Service, E: Broadcast, C: Coin + Drop> Replica<S, E, C> {
     fn feed(&mut self, alloc: Global) -> Result<(), Mem>
         ensures ok { OnOk result (FeedsLog (with_keys S.stands S.rules S.shown E.stands E.rules E.shown C.bits) self.old self.new) }
         ensures err { OnErr result (FeedsSome (with_keys S.stands S.rules S.shown E.stands E.rules E.shown C.bits) self.old self.new) }
+        ensures memory { let m = with_keys S.stands S.rules S.shown E.stands E.rules E.shown C.bits in
+            OnErr result (HasUnfed m self.old) }
         ensures only { FeedsOnly self.old self.new }
     {
         history_laws();
@@ -115,6 +122,8 @@ impl<S: Service, E: Broadcast, C: Coin + Drop> Replica<S, E, C> {
             × FeedsLog (with_keys S.stands S.rules S.shown E.stands E.rules E.shown C.bits) self.old self.new) }
         ensures err { OnErr result ((out.new.items ≡ out.old.items) × (self.new.sent ≡ self.old.sent)
             × FeedsSome (with_keys S.stands S.rules S.shown E.stands E.rules E.shown C.bits) self.old self.new) }
+        ensures memory { let m = with_keys S.stands S.rules S.shown E.stands E.rules E.shown C.bits in
+            OnErr result (MayWant m self.old msgs.items) }
         ensures same { SameCore self.old self.new }
     {
         self.feed(alloc)?;

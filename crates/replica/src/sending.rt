@@ -30,6 +30,9 @@ fn is_receiver(to: To, me: u8, j: u8) -> bool
 }
 
 // Seals a message for each replica that it reaches but this one. The frames share the body.
+//
+// That memory isn't said to be short where it is ample is shown by `drives_with_ample_memory` of
+// `stack_tests`, and at the sizes that a node reaches by `cases/floods`.
 fn seal_each(
     alloc: Global,
     channel: &Channel,
@@ -81,8 +84,9 @@ pub(crate) fn send(
     msgs: Vec<Msg>,
     made: &mut Vec<OutFrame<LazyFrame>>,
 ) -> Result<(), Mem>
-    ensures { OnOk result ((count : ℕ → ℕ) → AreCounts channel.now.n counts.old count
+    ensures sends { OnOk result ((count : ℕ → ℕ) → AreCounts channel.now.n counts.old count
         → Sends channel.now count msgs.items counts.new made.old.items made.new.items) }
+    ensures memory { OnErr result (msgs.items ≢ []) }
 {
     for msg in msgs {
         let to = msg.to;

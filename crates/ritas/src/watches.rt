@@ -1,8 +1,7 @@
 //! Watching a log.
 ghost use Rattle.std.specs.Prelude.{◌≡◌, ◌≢◌, ◌≤◌, ◌↔◌, ◌++◌, OnOk, IfOk, string_bytes};
-ghost use Rattle.command_log.specs.Rows.{row_at};
 ghost use Rattle.node_loop.specs.Outs.{outs_of, tells_of};
-ghost use Rattle.schedule_replay.specs.Report.{row_line, row_lines};
+ghost use Rattle.schedule_replay.specs.Report.{row_lines};
 ghost use Rattle.ritas.specs.Configs.{RunsWatch};
 ghost use Rattle.ritas.specs.Run.{Ends, LeavesLink, Replies, Runs};
 ghost use Rattle.ritas.specs.Statuses.{watch_status, watch_text};
@@ -12,37 +11,17 @@ use cluster_config::WatchConfig;
 use log_watch::{WatchEnd, watch};
 use observer::Observer;
 use outside::{Link, Sink};
-use schedule_replay::row_line;
+use schedule_replay::add_row;
 use std::alloc::{AllocError, Global};
 use std::net::Net;
 use std::sync::Wait;
-
-// Appends the line of a row, where the log has one at this position.
-fn add_row(
-    alloc: Global,
-    text: &mut String,
-    observer: &Observer,
-    position: u32,
-) -> Result<(), AllocError>
-    ensures { OnOk result (string_bytes text.new ≡
-        string_bytes text.old ++ row_line position (row_at observer.now.rows position)) }
-{
-    match observer.row(position) {
-        Some(row) => {
-            let line = row_line(alloc, position, row)?;
-            text.push_str(line.as_str())?;
-            Ok(())
-        }
-        None => Ok(()),
-    }
-}
 
 // Appends the lines of a log.
 fn add_rows(alloc: Global, text: &mut String, observer: &Observer) -> Result<(), AllocError>
     ensures { OnOk result (string_bytes text.new ≡ string_bytes text.old ++ row_lines observer.now.rows) }
 {
     for position in 0..observer.len() {
-        add_row(alloc, text, observer, position)?;
+        add_row(alloc, text, position, observer.row(position))?;
     }
     Ok(())
 }

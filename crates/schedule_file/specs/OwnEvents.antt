@@ -1,8 +1,9 @@
 -- The events of one replica alone, each read off the front of some bytes.
-use Rattle.std.specs.Prelude.{◌≡◌, ℕ, ◌+◌, ◌==◌, List, [], ◌∷◌, ◌++◌, length, take, drop, nat_le, Option, Some, None, if◌then◌else◌, refl}
+use Rattle.std.specs.Prelude.{◌≡◌, ℕ, ◌+◌, ◌==◌, Bool, false, List, [], ◌∷◌, ◌++◌, length, take, drop, nat_le, Option, Some, None, if◌then◌else◌, refl}
 use Rattle.std.specs.Int.{w16, from_be_bytes}
 use Rattle.ritas_base.specs.declared.event.Event.{Event}
 use Rattle.ritas_base.specs.declared.event.Event.TheVariants.{Frame, Input, Turn}
+use Rattle.schedule_file.specs.ReadEvents.{has_text}
 use Rattle.schedule_file.specs.Spelling.{event_text, IsAlone, IsSized}
 
 -- an event at this replica: a frame, an input or a turn, whose length fits its field
@@ -44,6 +45,11 @@ abbrev pub own_event : ℕ → List ℕ → Option (Event × ℕ)
 own_event me [] = None
 own_event me (kind ∷ []) = None
 own_event me (kind ∷ at ∷ rest) = if at == me then kind_in me kind rest else None
+
+-- there is one, and it holds a text
+abbrev pub has_own_text : Option (Event × ℕ) → Bool
+has_own_text None = false
+has_own_text (Some x) = has_text x.0
 
 -- an input of replica 0, "hi", and something behind it
 input_is_read : own_event 0 (2 ∷ 0 ∷ 0 ∷ 2 ∷ 104 ∷ 105 ∷ 9 ∷ []) ≡ Some (Input 0 (104 ∷ 105 ∷ []), 6)

@@ -1,5 +1,5 @@
 -- Reading the events of a schedule, of a scope.
-use Rattle.std.specs.Prelude.{ℕ, zero, suc, not, List, [], ◌∷◌, Option, Some, None, Result, Ok, Err, ◌==◌, if◌then◌else◌}
+use Rattle.std.specs.Prelude.{ℕ, zero, suc, Bool, true, false, not, List, [], ◌∷◌, Option, Some, None, Result, Ok, Err, ◌==◌, if◌then◌else◌}
 use Rattle.std.specs.Option.{is_none}
 use Rattle.ritas_base.specs.declared.event.Event.{Event}
 use Rattle.ritas_base.specs.declared.event.Event.TheVariants.{Frame, Input, Turn, Pass, Sealed}
@@ -87,6 +87,28 @@ event_at scope s = do
 abbrev pub events_then : Option Event → Result (List Event) FileFault → Result (List Event) FileFault
 events_then None more = Ok []
 events_then (Some e) more = more >>= λ es. Ok (e ∷ es)
+
+-- the event is a frame, an input or a body, which holds a text
+abbrev pub has_text : Event → Bool
+has_text (Frame to bytes) = true
+has_text (Input at bytes) = true
+has_text (Turn at) = false
+has_text (Pass from to m) = false
+has_text (Sealed from to body) = true
+
+-- an event was read that holds a text
+abbrev pub reads_text : Result (Event × Spot) FileFault → Bool
+reads_text (Ok x) = has_text x.0
+reads_text (Err e) = false
+
+-- and it isn't the end that was read
+abbrev pub has_text_next : Option Event → Bool
+has_text_next None = false
+has_text_next (Some e) = has_text e
+
+abbrev pub reads_text_next : Result (Option Event × Spot) FileFault → Bool
+reads_text_next (Ok x) = has_text_next x.0
+reads_text_next (Err e) = false
 
 -- the events up to the end mark, in the order of the file, of which there are fewer than so many
 unfoldable pub events_at : ℕ → Scope → Spot → Result (List Event) FileFault

@@ -278,7 +278,8 @@ impl Pieces {
         Ok(u64::from_be_bytes(bytes))
     }
 
-    /// So many bytes. Memory is taken only once all of them came.
+    /// So many bytes. Memory is taken only once all of them came. That it isn't said to be short
+    /// where it is ample is shown by `bytes_of_many_lengths` of `base_tests`.
     #[tactic(auto, using(crate::proofs::Chunks::held_read))]
     fn bytes<S: Source>(
         &mut self,

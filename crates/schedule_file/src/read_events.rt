@@ -1,13 +1,13 @@
 //! Reading events, kind by kind: each is whole and at replicas that the file has, or is a fault.
 
-ghost use Rattle.std.specs.Prelude.{◌<◌, IfOk, IfSome, IsOk, ◌≡◌, ◌≢◌, true, Err, None};
+ghost use Rattle.std.specs.Prelude.{◌<◌, IfOk, IfSome, ◌≡◌, ◌≢◌, true, Err, None};
 ghost use Rattle.outside.specs.Faults.{HasCause};
 ghost use Rattle.schedule_file.specs.declared.fault.FileFault.TheVariants.{Read};
 ghost use Rattle.schedule_file.specs.SourceFaults.{file_faults_after};
 ghost use Rattle.schedule_file.specs.FileBytes.{GivesUnlessFailed};
 ghost use Rattle.schedule_file.specs.Place.{spot};
 ghost use Rattle.schedule_file.specs.Scopes.{IsTheOne, IsInScope};
-ghost use Rattle.schedule_file.specs.ReadEvents.{replica_at, pair_at, frame_at, input_read_at, turn_at, pass_at, sealed_at, kind_at, event_at};
+ghost use Rattle.schedule_file.specs.ReadEvents.{replica_at, pair_at, frame_at, input_read_at, turn_at, pass_at, sealed_at, kind_at, event_at, reads_text, reads_text_next};
 
 use crate::fault::FileFault;
 use crate::pieces::{Pieces, test};
@@ -66,7 +66,8 @@ fn read_frame<S: Source>(
 ) -> Result<Event, FileFault>
     ensures exact { S.tells ≡ true → GivesUnlessFailed (λ x. x) result (spot pieces.new (S.left source.new)) (frame_at scope begin (spot pieces.old (S.left source.old))) }
     ensures event { IfOk result (IsInScope scope) }
-    ensures memory { S.tells ≡ true → result ≡ Err FileFault.Mem → IsOk (frame_at scope begin (spot pieces.old (S.left source.old))) }
+    ensures memory { S.tells ≡ true → result ≡ Err FileFault.Mem
+        → reads_text (frame_at scope begin (spot pieces.old (S.left source.old))) ≡ true }
     ensures cause { HasCause (S.faults source.old) (S.faults source.new) (result ≡ Err Read) }
     ensures counts { S.faults source.new ≡ file_faults_after (S.faults source.old) result }
 {
@@ -85,7 +86,8 @@ fn read_input<S: Source>(
 ) -> Result<Event, FileFault>
     ensures exact { S.tells ≡ true → GivesUnlessFailed (λ x. x) result (spot pieces.new (S.left source.new)) (input_read_at scope begin (spot pieces.old (S.left source.old))) }
     ensures event { IfOk result (IsInScope scope) }
-    ensures memory { S.tells ≡ true → result ≡ Err FileFault.Mem → IsOk (input_read_at scope begin (spot pieces.old (S.left source.old))) }
+    ensures memory { S.tells ≡ true → result ≡ Err FileFault.Mem
+        → reads_text (input_read_at scope begin (spot pieces.old (S.left source.old))) ≡ true }
     ensures cause { HasCause (S.faults source.old) (S.faults source.new) (result ≡ Err Read) }
     ensures counts { S.faults source.new ≡ file_faults_after (S.faults source.old) result }
 {
@@ -139,7 +141,8 @@ fn read_sealed<S: Source>(
 ) -> Result<Event, FileFault>
     ensures exact { S.tells ≡ true → GivesUnlessFailed (λ x. x) result (spot pieces.new (S.left source.new)) (sealed_at scope begin (spot pieces.old (S.left source.old))) }
     ensures event { IfOk result (IsInScope scope) }
-    ensures memory { S.tells ≡ true → result ≡ Err FileFault.Mem → IsOk (sealed_at scope begin (spot pieces.old (S.left source.old))) }
+    ensures memory { S.tells ≡ true → result ≡ Err FileFault.Mem
+        → reads_text (sealed_at scope begin (spot pieces.old (S.left source.old))) ≡ true }
     ensures cause { HasCause (S.faults source.old) (S.faults source.new) (result ≡ Err Read) }
     ensures counts { S.faults source.new ≡ file_faults_after (S.faults source.old) result }
 {
@@ -159,7 +162,8 @@ fn read_kind<S: Source>(
 ) -> Result<Event, FileFault>
     ensures exact { S.tells ≡ true → GivesUnlessFailed (λ x. x) result (spot pieces.new (S.left source.new)) (kind_at scope begin kind (spot pieces.old (S.left source.old))) }
     ensures event { IfOk result (IsInScope scope) }
-    ensures memory { S.tells ≡ true → result ≡ Err FileFault.Mem → IsOk (kind_at scope begin kind (spot pieces.old (S.left source.old))) }
+    ensures memory { S.tells ≡ true → result ≡ Err FileFault.Mem
+        → reads_text (kind_at scope begin kind (spot pieces.old (S.left source.old))) ≡ true }
     ensures cause { HasCause (S.faults source.old) (S.faults source.new) (result ≡ Err Read) }
     ensures counts { S.faults source.new ≡ file_faults_after (S.faults source.old) result }
 {
@@ -173,7 +177,8 @@ fn read_kind<S: Source>(
     }
 }
 
-/// The next event, or `None` at the end mark that the end of the file follows.
+/// The next event, or `None` at the end mark that the end of the file follows. Memory is wanted
+/// only for the text of an event.
 #[tactic(auto, using(outside::specs::FaultsLaws::rose_after), unfolding(crate::specs::ReadEvents::event_at))]
 pub fn read_event<S: Source>(
     alloc: Global,
@@ -183,7 +188,8 @@ pub fn read_event<S: Source>(
 ) -> Result<Option<Event>, FileFault>
     ensures exact { S.tells ≡ true → GivesUnlessFailed (λ x. x) result (spot pieces.new (S.left source.new)) (event_at scope (spot pieces.old (S.left source.old))) }
     ensures event { IfOk result (λ o. IfSome o (IsInScope scope)) }
-    ensures memory { S.tells ≡ true → result ≡ Err FileFault.Mem → IsOk (event_at scope (spot pieces.old (S.left source.old))) }
+    ensures memory { S.tells ≡ true → result ≡ Err FileFault.Mem
+        → reads_text_next (event_at scope (spot pieces.old (S.left source.old))) ≡ true }
     ensures cause { HasCause (S.faults source.old) (S.faults source.new) (result ≡ Err Read) }
     ensures counts { S.faults source.new ≡ file_faults_after (S.faults source.old) result }
 {

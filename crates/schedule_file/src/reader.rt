@@ -1,6 +1,6 @@
 //! A reader of schedule files: the header, the events one by one, and the end, or the first fault from the left.
 
-ghost use Rattle.std.specs.Prelude.{◌≡◌, ◌≢◌, true, Ok, Err, None, IfOk, IfSome, IsOk, MatchResult};
+ghost use Rattle.std.specs.Prelude.{◌≡◌, ◌≢◌, true, Ok, Err, None, IfOk, IfSome, MatchResult};
 ghost use Rattle.outside.specs.Faults.{HasCause};
 ghost use Rattle.schedule_file.specs.declared.fault.FileFault.TheVariants.{Read};
 ghost use Rattle.schedule_file.specs.SourceFaults.{file_faults_after};
@@ -9,7 +9,7 @@ ghost use Rattle.schedule_file.specs.Reading.{text_start};
 ghost use Rattle.schedule_file.specs.FileBytes.{GivesUnlessFailed, Fails};
 ghost use Rattle.schedule_file.specs.Place.{spot, reading_stage_after};
 ghost use Rattle.schedule_file.specs.ReadHeader.{heading, header_at};
-ghost use Rattle.schedule_file.specs.ReadEvents.{event_at};
+ghost use Rattle.schedule_file.specs.ReadEvents.{event_at, reads_text_next};
 ghost use Rattle.schedule_file.specs.Scopes.{scope_of, IsInScope};
 ghost use Rattle.schedule_file.specs.Spelling.{IsHeading};
 
@@ -70,7 +70,7 @@ impl Reader {
     /// The next event, or `None` where the end mark was read and the source then gave its end. The answer is that of
     /// the bytes that the reader holds followed by those that the source has left. It needs no source any more after
     /// `None`, which each later call answers too, nor after a fault, which each later call answers again. `Mem` comes
-    /// only where there is an event: a file with a fault is answered it.
+    /// only where there is an event that holds a text: a file with a fault is answered it.
     ///
     /// `Read` is answered only where the source failed in this call, or an earlier call answered it.
     pub fn next<S: Source>(
@@ -84,9 +84,10 @@ impl Reader {
         ensures event { IfOk result (λ o. IfSome o (IsInScope self.old.scope)) }
         ensures scope { self.new.scope ≡ self.old.scope }
 
-        // Memory is wanted only where the next event is whole and right.
+        // Memory is wanted only for a text of the next event, which is whole and right.
         ensures memory { self.old.stage ≡ Open → S.tells ≡ true → result ≡ Err FileFault.Mem
-            → IsOk (event_at self.old.scope (spot self.old.held (S.left src.old))) }
+            → reads_text_next (event_at self.old.scope (spot self.old.held (S.left src.old)))
+            ≡ true }
 
         // Where the file ended or has a fault, the answer stays, and the source isn't read.
         ensures ended { self.old.stage ≡ Ended → result ≡ Ok None }

@@ -112,9 +112,14 @@ abbrev pub row_line : ℕ → Option LogRow → List ℕ
 row_line position None = []
 row_line position (Some row) = id_part position row.id ++ command_part row.client row.request row.payload
 
--- the rows of a command log, the oldest first
+-- the rows of a command log below a position, the oldest first
+abbrev pub row_lines_below : List LogRow → ℕ → List ℕ
+row_lines_below rows n =
+    flat_map (λ position. row_line position (row_at rows position)) (range_with_len 0 n)
+
+-- and all of them
 abbrev pub row_lines : List LogRow → List ℕ
-row_lines rows = flat_map (λ position. row_line position (row_at rows position)) (range_with_len 0 (length rows))
+row_lines rows = row_lines_below rows (length rows)
 
 -- how many rounds are complete, and the command log
 abbrev pub rounds_line : ℕ → ℕ → List ℕ

@@ -23,6 +23,6 @@ pub use deal::deal_keys;
 pub use end::ReplayEnd;
 pub use first::{first_faces, first_world};
 pub use layers::{other_form, replay};
-pub use lines::row_line;
 pub use played::Played;
+pub use report::add_row;
 pub use write::show;

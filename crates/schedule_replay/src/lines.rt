@@ -123,7 +123,7 @@ fn command_part(
 }
 
 /// The line of a row of the command log, at its position.
-pub fn row_line(alloc: Global, position: u32, row: &LogRow) -> Result<String, AllocError>
+pub(crate) fn row_line(alloc: Global, position: u32, row: &LogRow) -> Result<String, AllocError>
     ensures { IfOk result (λ s. string_bytes s ≡ row_line position (Some row.now)) }
 {
     let mut line = id_part(alloc, position, row.id)?;

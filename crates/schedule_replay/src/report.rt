@@ -1,5 +1,5 @@
 //! The text of a report.
-ghost use Rattle.std.specs.Prelude.{◌≡◌, ◌<◌, ◌≤◌, ◌++◌, List, true, Some, OnOk, IfOk, string_bytes};
+ghost use Rattle.std.specs.Prelude.{◌≡◌, ◌≢◌, ℕ, ◌+◌, ◌<◌, ◌≤◌, ◌++◌, List, true, Some, None, OnOk, OnErr, IfOk, option_copied, string_bytes};
 ghost use Rattle.ritas_base.specs.declared.event.Event.{Event};
 ghost use Rattle.keyed_channel.specs.Keyed.{tags_of};
 ghost use Rattle.keyed_channel.specs.KeyRow.{KeyRow};
@@ -15,14 +15,14 @@ ghost use Rattle.ritas_core.specs.Stands.{meaning, CoreStands};
 ghost use Rattle.world_model.specs.Audit.{audit_of};
 ghost use Rattle.schedule_replay.specs.Layers.{setting_by, layers_by};
 ghost use Rattle.schedule_replay.specs.Played.{PlayedStandsFor};
-ghost use Rattle.schedule_replay.specs.Report.{out_line, origin_lines, commands_delivered, out_lines, ending_line, row_line, row_lines, log_lines, service_lines, standing_lines, report_on};
+ghost use Rattle.schedule_replay.specs.Report.{out_line, origin_lines, commands_delivered, out_lines, ending_line, row_line, row_lines_below, row_lines, log_lines, service_lines, standing_lines, report_on};
 
 use crate::lines::{
     count_line, ending_line, head_line, out_line, replica_line, rounds_line, row_line,
 };
 use crate::played::Played;
 use crate::replicas::{Lines, add_rest};
-use command_log::Log;
+use command_log::{Log, LogRow};
 use keyed_channel::Channel;
 use layer_api::{Broadcast, COMMAND_WINDOW, Service};
 use replica::Replica;
@@ -120,11 +120,23 @@ fn add_ending<S: Service, E: Broadcast, C: Coin + Drop>(
     Ok(())
 }
 
-// Appends the line of a row, where the log has one at this position.
-fn add_row(alloc: Global, text: &mut String, log: &Log, position: u32) -> Result<(), AllocError>
-    ensures { OnOk result (string_bytes text.new ≡ string_bytes text.old ++ row_line position (row_at log.now.rows position)) }
+/// Appends the line of the row at a position, if there is one: behind the lines of a log's rows below
+/// that position it is the next.
+#[tactic(auto, using(crate::proofs::Written::written_next))]
+pub fn add_row(
+    alloc: Global,
+    text: &mut String,
+    position: u32,
+    row: Option<&LogRow>,
+) -> Result<(), AllocError>
+    ensures row { OnOk result (string_bytes text.new
+        ≡ string_bytes text.old ++ row_line position (option_copied row.entry)) }
+    ensures next { (old : List ℕ) (rows : _) → option_copied row.entry ≡ row_at rows position
+        → string_bytes text.old ≡ old ++ row_lines_below rows position
+        → OnOk result (string_bytes text.new ≡ old ++ row_lines_below rows (position + 1)) }
+    ensures memory { OnErr result (row.entry ≢ None) }
 {
-    match log.row(position) {
+    match row {
         Some(row) => {
             let line = row_line(alloc, position, row)?;
             text.push_str(line.as_str())?;
@@ -139,7 +151,7 @@ fn add_rows(alloc: Global, text: &mut String, log: &Log) -> Result<(), AllocErro
     ensures { OnOk result (string_bytes text.new ≡ string_bytes text.old ++ row_lines log.now.rows) }
 {
     for position in 0..log.len() {
-        add_row(alloc, text, log, position)?;
+        add_row(alloc, text, position, log.row(position))?;
     }
     Ok(())
 }

@@ -1,10 +1,10 @@
 -- Each wait counts at least as much as a short one where no clock is read, so that a pause ends; where one is, what it shows is counted.
-use Rattle.std.proofs.Common.{◌≡◌, ◌↔◌, ℕ, ◌+◌, ◌-◌, ◌*◌, ◌≤◌, ◌<◌, ◌^◌, Bool, true, false, List, [], ◌∷◌, length, Option, Some, None, refl, arith, ap, ◌∙◌}
+use Rattle.std.proofs.Common.{◌≡◌, ℕ, ◌+◌, ◌-◌, ◌*◌, ◌≤◌, Bool, true, false, List, [], ◌∷◌, length, Option, Some, None, refl, arith, ap, ◌∙◌}
 use Rattle.std.specs.Prelude.{unwrap_or}
 use Rattle.std.specs.List.{AllByRecursion}
-use Rattle.tcp_link.specs.Limits.{short_wait_microseconds, pause_microseconds}
+use Rattle.tcp_link.specs.Limits.{short_wait_microseconds}
 use Rattle.tcp_link.specs.declared.clock.Clock.{Clock}
-use Rattle.tcp_link.specs.Waits.{WaitEnd, after_wait, after_waits, capped_64, guessed, next_wait, passed, retry_due_microseconds, PauseEnds, ShowsFrom, ShownIsCounted, PauseIsShown}
+use Rattle.tcp_link.specs.Waits.{WaitEnd, after_wait, after_waits, capped_64, guessed, next_wait, passed, PauseEnds, ShowsFrom, ShownIsCounted, PauseIsShown}
 
 -- ---- without a clock
 

@@ -35,6 +35,11 @@ naming n (Node from) bytes = Waits
 
 -- ---- clients
 
+-- replicas come in, and no clients
+abbrev pub is_of_replicas : Entry → Bool
+is_of_replicas (entries.Replicas at) = true
+is_of_replicas (entries.Clients at) = false
+
 -- whether one more may come in, where so many clients were numbered: peers always may. The numbers of clients are below `most_clients`
 abbrev pub admits_one_more : Entry → ℕ → Bool
 admits_one_more (entries.Replicas at) numbered = true

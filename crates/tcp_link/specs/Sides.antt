@@ -206,6 +206,13 @@ gives_of s =
     else if is_whole s then (if is_client s.whom then gives.Message else gives.Frame)
     else if is_too_long s then gives.TooLong else gives.Nothing
 
+-- that is a piece
+abbrev pub has_piece : Gives → Bool
+has_piece gives.Frame = true
+has_piece gives.Message = true
+has_piece gives.Nothing = false
+has_piece gives.TooLong = false
+
 -- the bytes of the piece at the front, and what follows it
 abbrev pub front_piece : List ℕ → List ℕ
 front_piece bytes = take (length_told bytes) (drop length_bytes bytes)

@@ -1,6 +1,6 @@
 //! What a link is to give, in the order in which it is given.
 
-ghost use Rattle.std.specs.Prelude.{◌≡◌, ◌++◌, ◌∷◌, [], OnOk, length, drop, nat_lt, slice_get};
+ghost use Rattle.std.specs.Prelude.{◌≡◌, ◌≢◌, ◌++◌, ◌∷◌, [], None, OnOk, OnErr, length, drop, nat_lt, slice_get};
 ghost use Rattle.tcp_link.specs.Queues.{Queue, empty_queue, next_of, without_next, with_news, with_told, with_frame_last, with_frame_first, with_message, in_turn};
 
 use crate::limits::MESSAGES_A_TURN;
@@ -84,7 +84,8 @@ impl Agenda {
 
     /// There is this news, if any. The one error is want of memory.
     pub(crate) fn add_told(&mut self, told: Option<News>) -> Result<(), Mem>
-        ensures { OnOk result (self.new ≡ with_told self.old told) }
+        ensures told { OnOk result (self.new ≡ with_told self.old told) }
+        ensures memory { OnErr result (told ≢ None) }
     {
         match told {
             Some(news) => self.add_news(news),

@@ -1,5 +1,9 @@
 //! Connections that come in at the doors, and those that are begun.
 
+ghost use Rattle.std.specs.Prelude.{◌≡◌, ◌≢◌, ◌⊎◌, ◌<◌, [], true, false, Some, None, OnErr, vec_len};
+ghost use Rattle.tcp_link.specs.Names.{dial_again, is_of_replicas, told_at_end};
+ghost use Rattle.tcp_link.specs.Waits.{first_retry};
+
 use crate::conn::Conn;
 use crate::dials::{Dial, begin, watched};
 use crate::doors::Arrival;
@@ -17,7 +21,9 @@ use std::net::{Net, SocketAddr};
 
 impl Sockets {
     /// Accepts connections at the doors on the list.
-    pub(crate) fn accept_all(&mut self, alloc: Global, registry: &Registry) -> Result<(), Mem> {
+    pub(crate) fn accept_all(&mut self, alloc: Global, registry: &Registry) -> Result<(), Mem>
+        ensures memory { OnErr result (self.old.open_doors.items ≢ []) }
+    {
         for _ in 0..self.open_doors.len() {
             let Some(number) = self.open_doors.pop_front() else {
                 break;
@@ -28,7 +34,9 @@ impl Sockets {
     }
 
     // Accepts connections at a door, which is on the list again if more may wait.
-    fn accept_at(&mut self, alloc: Global, registry: &Registry, number: usize) -> Result<(), Mem> {
+    fn accept_at(&mut self, alloc: Global, registry: &Registry, number: usize) -> Result<(), Mem>
+        ensures memory { OnErr result (number < vec_len self.old.doors) }
+    {
         let Some(door) = self.doors.get_mut(number) else {
             // There is no such door.
             return Ok(());
@@ -47,12 +55,9 @@ impl Sockets {
     }
 
     // Accepts one connection, and says whether more may wait. Where none can be accepted now it is tried again after a pause.
-    fn accept_one(
-        &mut self,
-        alloc: Global,
-        registry: &Registry,
-        number: usize,
-    ) -> Result<bool, Mem> {
+    fn accept_one(&mut self, alloc: Global, registry: &Registry, number: usize) -> Result<bool, Mem>
+        ensures memory { OnErr result (number < vec_len self.old.doors) }
+    {
         let Some(door) = self.doors.get_mut(number) else {
             // There is no such door.
             return Ok(false);
@@ -111,7 +116,9 @@ impl Sockets {
     }
 
     // One that came in at a door for replicas is closed once many came in after it, unless it told its number by then.
-    fn enter_stranger(&mut self, entry: Entry, token: usize) -> Result<(), Mem> {
+    fn enter_stranger(&mut self, entry: Entry, token: usize) -> Result<(), Mem>
+        ensures memory { OnErr result (is_of_replicas entry ≡ true) }
+    {
         if !entry.is_of_replicas() {
             return Ok(());
         }
@@ -164,7 +171,10 @@ impl Sockets {
     }
 
     // A connection couldn't be begun: it is tried again after a pause, but not by a client.
-    fn not_begun(&mut self, dial: Dial) -> Result<(), Mem> {
+    fn not_begun(&mut self, dial: Dial) -> Result<(), Mem>
+        ensures memory { OnErr result ((told_at_end Stage.Refused false dial.whom ≢ None)
+            ⊎ (dial_again self.old.is_client (Some dial) ≢ None)) }
+    {
         self.closed(dial.whom.ended(Stage::Refused, false), Some(dial))
     }
 
@@ -174,7 +184,10 @@ impl Sockets {
         rt: &R,
         alloc: Global,
         registry: &Registry,
-    ) -> Result<(), Mem> {
+    ) -> Result<(), Mem>
+        ensures memory { let r = self.old.retries in
+            OnErr result (first_retry r.clock r.waiting.items r.looks.items ≢ None) }
+    {
         for _ in 0..self.retries.len() {
             match self.retries.next() {
                 Some(Retry::Dial(dial)) => self.dial(rt, alloc, registry, dial)?,

@@ -1,7 +1,7 @@
 //! The connections of a link, by their tokens, by their peers and by the numbers of clients.
 
 ghost use Rattle.std.specs.Prelude.{◌≡◌, ◌<◌, ◌==◌, OnOk, count_by, option_copied};
-ghost use Rattle.std.specs.Option.{SomeIff};
+ghost use Rattle.std.specs.Option.{SomeIff, option_copied_mut};
 ghost use Rattle.std.specs.Ordering.{nat_cmp};
 ghost use Rattle.std.specs.BTreeMap.{get as get_client};
 ghost use Rattle.slab.specs.Slab.{slab_len};
@@ -86,7 +86,9 @@ impl Conns {
     }
 
     /// The connection of a token, if it is there.
-    pub(crate) fn get_mut(&mut self, token: usize) -> Option<&mut Conn> {
+    pub(crate) fn get_mut(&mut self, token: usize) -> Option<&mut Conn>
+        ensures { option_copied_mut result ≡ conn_at self.old.places token }
+    {
         let conn = self.places.get_mut(place_in(token))?;
         if conn.token == token {
             Some(conn)

@@ -1,6 +1,7 @@
 //! Connections that are replaced, read to their end, and closed.
 
-ghost use Rattle.std.specs.Prelude.{◌≡◌, ◌++◌, OnOk};
+ghost use Rattle.std.specs.Prelude.{◌≡◌, ◌≢◌, ◌⊎◌, ◌++◌, None, OnOk, OnErr};
+ghost use Rattle.tcp_link.specs.Connections.{conn_at};
 ghost use Rattle.tcp_link.specs.Names.{dial_again, told_at_end};
 ghost use Rattle.tcp_link.specs.Queues.{with_told};
 ghost use Rattle.tcp_link.specs.Waits.{redial};
@@ -14,7 +15,9 @@ use ritas_base::Mem;
 
 impl Sockets {
     /// Takes the number that a peer told, whose connection stands in place of an older one from then on.
-    pub(crate) fn take_name(&mut self, token: usize) -> Result<(), Mem> {
+    pub(crate) fn take_name(&mut self, token: usize) -> Result<(), Mem>
+        ensures memory { OnErr result (conn_at self.old.conns.places token ≢ None) }
+    {
         let Some(conn) = self.conns.get_mut(token) else {
             // It is gone.
             return Ok(());
@@ -31,7 +34,9 @@ impl Sockets {
     }
 
     // A newer connection of a peer waits until the older one is read to its end. Where that one waits itself, the oldest ends.
-    fn replace(&mut self, older: usize, newer: usize) -> Result<(), Mem> {
+    fn replace(&mut self, older: usize, newer: usize) -> Result<(), Mem>
+        ensures memory { OnErr result (conn_at self.old.conns.places older ≢ None) }
+    {
         let Some(conn) = self.conns.get_mut(older) else {
             // It is gone.
             return Ok(());
@@ -49,16 +54,22 @@ impl Sockets {
     }
 
     /// A connection ends.
-    pub(crate) fn end(&mut self, token: usize) -> Result<(), Mem> {
-        if let Some(conn) = self.conns.get_mut(token) {
-            conn.side.change(Change::Ends);
-        }
+    pub(crate) fn end(&mut self, token: usize) -> Result<(), Mem>
+        ensures memory { OnErr result (conn_at self.old.conns.places token ≢ None) }
+    {
+        let Some(conn) = self.conns.get_mut(token) else {
+            // It is gone.
+            return Ok(());
+        };
+        conn.side.change(Change::Ends);
         self.settle(token)
     }
 
     /// Begins to read a connection to its end, once it takes no bytes, and closes it, once it is over and no piece is to be given from
     /// it.
-    pub(crate) fn settle(&mut self, token: usize) -> Result<(), Mem> {
+    pub(crate) fn settle(&mut self, token: usize) -> Result<(), Mem>
+        ensures memory { OnErr result (conn_at self.old.conns.places token ≢ None) }
+    {
         let Some(conn) = self.conns.get_mut(token) else {
             // It is gone.
             return Ok(());
@@ -75,7 +86,9 @@ impl Sockets {
     }
 
     /// Looks again at a connection that is read to its end, which ends after a while.
-    pub(crate) fn drain_on(&mut self, token: usize) -> Result<(), Mem> {
+    pub(crate) fn drain_on(&mut self, token: usize) -> Result<(), Mem>
+        ensures memory { OnErr result (conn_at self.old.conns.places token ≢ None) }
+    {
         let Some(conn) = self.conns.get_mut(token) else {
             // It is gone.
             return Ok(());
@@ -92,6 +105,9 @@ impl Sockets {
         ensures told { OnOk result (self.new.agenda ≡ with_told self.old.agenda (told_at_end conn.side.stage conn.side.has_given conn.side.whom)) }
         ensures again { OnOk result (self.new.retries.waiting.items
             ≡ self.old.retries.waiting.items ++ redial self.old.retries.clock (dial_again self.old.is_client conn.side.dial)) }
+        ensures memory { OnErr result ((conn.side.newer ≢ None)
+            ⊎ ((told_at_end conn.side.stage conn.side.has_given conn.side.whom ≢ None)
+            ⊎ (dial_again self.old.is_client conn.side.dial ≢ None))) }
     {
         if let Some(newer) = conn.side.newer {
             self.release(newer)?;
@@ -105,6 +121,7 @@ impl Sockets {
         ensures agenda { self.new.agenda ≡ self.old.agenda }
         ensures retries { self.new.retries ≡ self.old.retries }
         ensures plan { self.new.is_client ≡ self.old.is_client }
+        ensures memory { OnErr result (conn_at self.old.conns.places token ≢ None) }
     {
         let Some(conn) = self.conns.get_mut(token) else {
             // It is gone.

@@ -1,7 +1,7 @@
 //! Who comes in by a door.
 
 ghost use Rattle.std.specs.Prelude.{◌≡◌, true};
-ghost use Rattle.tcp_link.specs.Names.{admits_one_more, has_client_room, whom_at, numbered_after, whom_let_in, numbered_let_in};
+ghost use Rattle.tcp_link.specs.Names.{is_of_replicas, admits_one_more, has_client_room, whom_at, numbered_after, whom_let_in, numbered_let_in};
 
 use crate::limits::{CLIENTS_A_TURN, MOST_AT_ONCE, MOST_CLIENTS, REPLICAS_A_TURN};
 use crate::whom::Whom;
@@ -45,7 +45,9 @@ impl Entry {
     }
 
     /// Whether replicas come in by it.
-    pub(crate) fn is_of_replicas(self) -> bool {
+    pub(crate) fn is_of_replicas(self) -> bool
+        ensures { result ≡ is_of_replicas self }
+    {
         match self {
             Entry::Replicas { at: _ } => true,
             Entry::Clients { at: _ } => false,

@@ -1,8 +1,8 @@
 //! The pieces of a connection that are given, and their place in the order in which a link gives.
 
-ghost use Rattle.std.specs.Prelude.{◌≡◌, ◌≢◌, ◌<◌, ◌^◌, IfOk, IfSome, OnOk, length};
+ghost use Rattle.std.specs.Prelude.{◌≡◌, ◌≢◌, ◌<◌, ◌^◌, true, false, IfOk, IfSome, OnOk, OnErr, length};
 ghost use Rattle.outside.specs.Links.{bytes_of};
-ghost use Rattle.tcp_link.specs.Sides.{gives_of, side_item_taken, with_gives, off_given, side_listed, queue_listed, side_given, queue_given};
+ghost use Rattle.tcp_link.specs.Sides.{gives_of, has_piece, is_whole, side_item_taken, with_gives, off_given, side_listed, queue_listed, side_given, queue_given};
 
 use crate::agenda::Agenda;
 use crate::side::{Gives, Side};
@@ -28,6 +28,8 @@ impl Side {
     pub(crate) fn list_piece(&mut self, agenda: &mut Agenda, token: usize) -> Result<(), Mem>
         ensures side { OnOk result (self.new ≡ side_listed self.old (gives_of self.old)) }
         ensures agenda { OnOk result (agenda.new ≡ queue_listed agenda.old self.old.listed.gives token (gives_of self.old)) }
+        ensures memory { OnErr result ((self.old.listed.gives ≡ false)
+            × (has_piece (gives_of self.old) ≡ true)) }
     {
         let gives = self.gives();
         if !self.listed.gives {
@@ -47,6 +49,7 @@ impl Side {
         ensures open { IfOk result (λ item. IfSome item (λ x. x ≢ LinkItem.End)) }
         ensures item { IfOk result (λ item. item ≡ side_item_taken self.old) }
         ensures side { OnOk result (self.new ≡ off_given self.old) }
+        ensures memory { OnErr result (is_whole self.old ≡ true) }
     {
         self.listed.gives = false;
         self.take(alloc)
@@ -64,6 +67,7 @@ impl Side {
         ensures open { IfOk result (λ item. IfSome item (λ x. x ≢ LinkItem.End)) }
         ensures item { IfOk result (λ item. item ≡ side_item_taken self.old) }
         ensures side { OnOk result (self.new ≡ side_given self.old) }
+        ensures memory { OnErr result (is_whole self.old ≡ true) }
         ensures agenda { OnOk result (agenda.new ≡ queue_given agenda.old token (gives_of (off_given self.old))) }
     {
         let item = self.take_listed(alloc)?;

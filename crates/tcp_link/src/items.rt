@@ -1,8 +1,11 @@
 //! The items that a link gives.
 
-ghost use Rattle.std.specs.Prelude.{◌≡◌, ◌≢◌, ◌<◌, ◌^◌, ◌&&◌, ◌==◌, not, nat_lt, IfOk, IfSome, length};
+ghost use Rattle.std.specs.Prelude.{◌≡◌, ◌≢◌, ◌<◌, ◌^◌, ◌&&◌, ◌==◌, not, nat_lt, IfOk, IfSome, OnErr, Ok, Some, None, length};
+ghost use Rattle.tcp_link.specs.Connections.{conn_at};
 ghost use Rattle.slab.specs.Slab.{slab_len};
 ghost use Rattle.outside.specs.Links.{bytes_of};
+ghost use Rattle.tcp_link.specs.Names.{item_told};
+ghost use Rattle.tcp_link.specs.Queues.{next_of};
 
 use crate::agenda::Next;
 use crate::sockets::Sockets;
@@ -13,6 +16,7 @@ use std::alloc::Global;
 impl Sockets {
     // The piece of a connection that came next. It is closed if it is over and has no more.
     fn take_from(&mut self, alloc: Global, token: usize) -> Result<Option<LinkItem>, Mem>
+        ensures memory { OnErr result (conn_at self.old.conns.places token ≢ None) }
         ensures size { IfOk result (λ item. IfSome item (λ x. length (bytes_of x) < 2 ^ 16)) }
         ensures open { IfOk result (λ item. IfSome item (λ x. x ≢ LinkItem.End)) }
     {
@@ -32,6 +36,7 @@ impl Sockets {
 
     // The item that comes next, if its connection still has it.
     fn take_next(&mut self, alloc: Global, next: Next) -> Result<Option<LinkItem>, Mem>
+        ensures told { (news : _) → next ≡ Next.Told news → result ≡ Ok (Some (item_told news)) }
         ensures size { IfOk result (λ item. IfSome item (λ x. length (bytes_of x) < 2 ^ 16)) }
         ensures open { IfOk result (λ item. IfSome item (λ x. x ≢ LinkItem.End)) }
     {
@@ -50,6 +55,7 @@ impl Sockets {
 
     /// The next item that came, if there is one. The one error is want of memory.
     pub(crate) fn take_item(&mut self, alloc: Global) -> Result<Option<LinkItem>, Mem>
+        ensures none { next_of self.old.agenda ≡ None → result ≡ Ok None }
         ensures size { IfOk result (λ item. IfSome item (λ x. length (bytes_of x) < 2 ^ 16)) }
         ensures open { IfOk result (λ item. IfSome item (λ x. x ≢ LinkItem.End)) }
     {

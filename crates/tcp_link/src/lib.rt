@@ -9,6 +9,10 @@
 //! A peer that was sent something and of which then nothing comes for a minute is taken for gone. The time that passes is what a clock
 //! shows that is read once a turn, or else it is counted by what the link does.
 //!
+//! Where something is put on a list or bytes are kept, contracts leave open when memory is short.
+//! No call says so where it is ample: `a_cluster` and `a_client` of `stack_tests` show it, and
+//! `cases/floods` at the sizes that a node reaches.
+//!
 //! News comes first: that a peer has a connection, that a peer or a node has none any more, or that a client left. The one that began
 //! a connection between replicas begins it again after a pause. One that takes no more bytes, or in whose place a newer one stands, is
 //! read to its end for some seconds, and what came by it is given before what comes by the newer one. In each turn, each connection of

@@ -1,6 +1,6 @@
 //! The link over TCP: what comes by its connections is given in order, and what is sent goes out.
 
-ghost use Rattle.std.specs.Prelude.{◌≡◌, ◌≢◌, ◌<◌, ◌^◌, [], false, IfOk, IfSome, length, Err};
+ghost use Rattle.std.specs.Prelude.{◌≡◌, ◌≢◌, ◌<◌, ◌^◌, [], false, None, IfOk, IfSome, OnErr, length, Err};
 ghost use Rattle.outside.specs.Faults.{HasCause};
 ghost use Rattle.outside.specs.Links.{bytes_of, faults_after};
 ghost use Rattle.tcp_link.specs.Outcomes.{link_fault_of};
@@ -144,6 +144,7 @@ impl<C: Clock + Drop> Link for TcpLink<C> {
         ensures open { IfOk result (λ given. IfSome given (λ item. item ≢ LinkItem.End)) }
         ensures cause { HasCause self.old.faults.failed self.new.faults.failed (result ≡ Err LinkFault.Failed) }
         ensures count { self.new.faults ≡ faults_after self.old.faults result }
+        ensures memory { OnErr result (self.old.running ≢ None) }
     {
         let Some(running) = &mut self.running else {
             return Ok(None);
@@ -164,6 +165,7 @@ impl<C: Clock + Drop> Link for TcpLink<C> {
     ) -> Result<(), LinkFault>
         ensures cause { HasCause self.old.faults.failed self.new.faults.failed (result ≡ Err LinkFault.Failed) }
         ensures count { self.new.faults ≡ faults_after self.old.faults result }
+        ensures memory { OnErr result (self.old.running ≢ None) }
     {
         if frame.len() > LONGEST_PIECE {
             return Ok(());
@@ -187,6 +189,7 @@ impl<C: Clock + Drop> Link for TcpLink<C> {
     ) -> Result<(), LinkFault>
         ensures cause { HasCause self.old.faults.failed self.new.faults.failed (result ≡ Err LinkFault.Failed) }
         ensures count { self.new.faults ≡ faults_after self.old.faults result }
+        ensures memory { OnErr result (self.old.running ≢ None) }
     {
         if bytes.len() > LONGEST_PIECE {
             return Ok(());

@@ -1,6 +1,7 @@
 //! Connections are looked at every five seconds.
 
-ghost use Rattle.std.specs.Prelude.{◌≡◌, ◌≤◌, ◌++◌, IfSome, OnOk, if◌then◌else◌};
+ghost use Rattle.std.specs.Prelude.{◌≡◌, ◌≢◌, ◌≤◌, ◌++◌, true, false, None, IfSome, OnOk, OnErr, if◌then◌else◌};
+ghost use Rattle.tcp_link.specs.Connections.{conn_at};
 ghost use Rattle.tcp_link.specs.Limits.{looks_of_peer};
 ghost use Rattle.tcp_link.specs.Stages.{is_half};
 ghost use Rattle.tcp_link.specs.Sides.{most_looks, looked, on_looks, is_at_rest, is_read_due, unread_taken};
@@ -41,7 +42,8 @@ impl Side {
 
     /// It is looked at in five seconds, if it isn't to be looked at already. The one error is want of memory.
     pub(crate) fn look_later(&mut self, retries: &mut Retries, token: usize) -> Result<(), Mem>
-        ensures { OnOk result (self.new ≡ on_looks self.old) }
+        ensures side { OnOk result (self.new ≡ on_looks self.old) }
+        ensures memory { OnErr result (self.old.listed.looks ≡ false) }
     {
         if !self.listed.looks {
             retries.look_at(token)?;
@@ -52,7 +54,10 @@ impl Side {
 
     /// A client that sends no more is looked at from then on. The one error is want of memory.
     pub(crate) fn look_at_half(&mut self, retries: &mut Retries, token: usize) -> Result<(), Mem>
-        ensures { OnOk result (self.new ≡ (if is_half self.old.stage then on_looks self.old else self.old)) }
+        ensures side { OnOk result (self.new
+            ≡ (if is_half self.old.stage then on_looks self.old else self.old)) }
+        ensures memory { OnErr result ((is_half self.old.stage ≡ true)
+            × (self.old.listed.looks ≡ false)) }
     {
         if self.stage.is_half() {
             self.look_later(retries, token)?;
@@ -88,6 +93,7 @@ impl Side {
     pub(crate) fn look_once(&mut self, retries: &mut Retries, token: usize) -> Result<(), Mem>
         ensures side { self.new ≡ looked self.old }
         ensures again { OnOk result (retries.new.looks.items ≡ retries.old.looks.items ++ look_again retries.old.clock token (looked self.old).listed.looks) }
+        ensures memory { OnErr result ((looked self.old).listed.looks ≡ true) }
         ensures waiting { retries.new.waiting ≡ retries.old.waiting }
         ensures clock { retries.new.clock ≡ retries.old.clock }
     {
@@ -113,7 +119,9 @@ impl Sockets {
     /// Looks at a connection, which is closed if it ended by that. What is decided of it is what `Side::look_once` says; that the
     /// connection of the token is the one that is looked at is shown by `strangers_are_closed`, `a_stranger_in_a_crowd` and
     /// `asked_and_silent` of `cases/link`.
-    pub(crate) fn look(&mut self, token: usize) -> Result<(), Mem> {
+    pub(crate) fn look(&mut self, token: usize) -> Result<(), Mem>
+        ensures memory { OnErr result (conn_at self.old.conns.places token ≢ None) }
+    {
         let Some(conn) = self.conns.get_mut(token) else {
             // It is gone.
             return Ok(());

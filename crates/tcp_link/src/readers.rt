@@ -1,6 +1,6 @@
 //! Connections that may have bytes to be read.
 
-ghost use Rattle.std.specs.Prelude.{◌≡◌, [], OnOk};
+ghost use Rattle.std.specs.Prelude.{◌≡◌, [], false, OnOk, OnErr};
 ghost use Rattle.tcp_link.specs.Sides.{on_readers};
 
 use crate::side::Side;
@@ -37,7 +37,8 @@ impl Readers {
 
     /// Puts a connection among them, if it isn't there. The one error is want of memory.
     pub(crate) fn add(&mut self, side: &mut Side, token: usize) -> Result<(), Mem>
-        ensures { OnOk result (side.new ≡ on_readers side.old) }
+        ensures side { OnOk result (side.new ≡ on_readers side.old) }
+        ensures memory { OnErr result (side.old.listed.reads ≡ false) }
     {
         if side.whom.is_client() {
             list(&mut side.listed.reads, token, &mut self.clients)

@@ -1,6 +1,7 @@
 //! A pause is made before a node is asked again whose last piece told nothing new.
 
-ghost use Rattle.std.specs.Prelude.{◌≡◌, ◌++◌, OnOk};
+ghost use Rattle.std.specs.Prelude.{◌≡◌, ◌≢◌, ◌++◌, true, None, OnOk, OnErr};
+ghost use Rattle.tcp_link.specs.Connections.{conn_at};
 ghost use Rattle.tcp_link.specs.Sides.{is_rest_due, resting, rested};
 ghost use Rattle.tcp_link.specs.Waits.{rest_again};
 
@@ -22,6 +23,7 @@ impl Side {
     pub(crate) fn rest(&mut self, retries: &mut Retries, token: usize) -> Result<(), Mem>
         ensures side { OnOk result (self.new ≡ resting self.old) }
         ensures again { OnOk result (retries.new.waiting.items ≡ retries.old.waiting.items ++ rest_again retries.old.clock token (is_rest_due self.old)) }
+        ensures memory { OnErr result (is_rest_due self.old ≡ true) }
         ensures looks { retries.new.looks ≡ retries.old.looks }
         ensures clock { retries.new.clock ≡ retries.old.clock }
     {
@@ -42,8 +44,11 @@ impl Side {
 }
 
 impl Sockets {
-    /// The pause before a node is written to is over. What was kept for it meanwhile goes out: so `a_watch_is_patient` of `cases/cluster` shows.
-    pub(crate) fn write_rested(&mut self, token: usize) -> Result<(), Mem> {
+    /// The pause before a node is written to is over. What was kept for it meanwhile goes out: so
+    /// `a_watch_is_patient` of `cases/watch` shows.
+    pub(crate) fn write_rested(&mut self, token: usize) -> Result<(), Mem>
+        ensures memory { OnErr result (conn_at self.old.conns.places token ≢ None) }
+    {
         let Some(conn) = self.conns.get_mut(token) else {
             // It is gone.
             return Ok(());

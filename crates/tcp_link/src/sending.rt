@@ -1,6 +1,10 @@
 //! What goes out.
 
-ghost use Rattle.std.specs.Prelude.{◌<◌, ◌^◌, length};
+ghost use Rattle.std.specs.Prelude.{◌≢◌, ◌<◌, ◌^◌, None, OnErr, length};
+ghost use Rattle.std.specs.Ordering.{nat_cmp};
+ghost use Rattle.std.specs.BTreeMap.{get as get_client};
+ghost use Rattle.tcp_link.specs.Connections.{conn_at};
+ghost use Rattle.tcp_link.specs.Names.{sent_through};
 
 use crate::sockets::{Sockets, list};
 use crate::whom::sent_through;
@@ -11,6 +15,8 @@ impl Sockets {
     /// where the connection was begun and doesn't stand yet. A frame is also dropped where it is longer than the peer takes.
     pub(crate) fn send(&mut self, at: u8, peer: u8, bytes: &[u8]) -> Result<(), Mem>
         requires { length bytes.now < 2 ^ 16 }
+        ensures memory { OnErr result
+            (sent_through self.old.is_client at (length bytes.now) ≢ None) }
     {
         let Some(at) = sent_through(self.is_client, at, bytes.len()) else {
             return Ok(());
@@ -24,6 +30,7 @@ impl Sockets {
     /// Sends a message to a client of a replica. It is dropped where there is no connection.
     pub(crate) fn reply(&mut self, at: u8, number: u32, bytes: &[u8]) -> Result<(), Mem>
         requires { length bytes.now < 2 ^ 16 }
+        ensures memory { OnErr result (get_client nat_cmp self.old.conns.clients number ≢ None) }
     {
         let Some(token) = self.conns.client(number) else {
             return Ok(());
@@ -37,6 +44,7 @@ impl Sockets {
     // Keeps a piece to go out by a connection.
     fn put(&mut self, token: usize, bytes: &[u8]) -> Result<(), Mem>
         requires { length bytes.now < 2 ^ 16 }
+        ensures memory { OnErr result (conn_at self.old.conns.places token ≢ None) }
     {
         let Some(conn) = self.conns.get_mut(token) else {
             // It is gone.

@@ -1,13 +1,13 @@
 //! What is known of a connection without its stream: how far it is, whom it is with, and the bytes that came and that go.
 
-ghost use Rattle.std.specs.Prelude.{◌≡◌, ◌≢◌, ◌<◌, ◌^◌, ◌++◌, ◌∷◌, [], IfOk, IfSome, OnOk, length, is_some, nat_lt, false};
+ghost use Rattle.std.specs.Prelude.{◌≡◌, ◌≢◌, ◌<◌, ◌^◌, ◌++◌, ◌∷◌, [], IfOk, IfSome, OnOk, OnErr, length, is_some, nat_lt, true, false};
 ghost use Rattle.outside.specs.Links.{bytes_of};
 ghost use Rattle.tcp_link.specs.Limits.{longest_piece};
 ghost use Rattle.tcp_link.specs.Names.{naming, most_of};
 ghost use Rattle.tcp_link.specs.Outcomes.{IsWithin};
 ghost use Rattle.tcp_link.specs.Pieces.{FitsIn};
 ghost use Rattle.tcp_link.specs.Stages.{first_stage, is_begun};
-ghost use Rattle.tcp_link.specs.Sides.{changed, ended, is_side_done, is_replied, is_drain_due, draining, ticked, is_side_ready, is_reading, takes, piece_kept, has_much, capped, IsCapped, side_written, is_fed, side_read, named, IsFrontAt, gives_of, side_item_taken, side_taken, side_noted, is_write_due, off_readers, off_writers};
+ghost use Rattle.tcp_link.specs.Sides.{changed, ended, is_side_done, is_replied, is_drain_due, draining, ticked, is_side_ready, is_reading, takes, piece_kept, has_much, capped, IsCapped, side_written, is_fed, side_read, named, is_whole, IsFrontAt, gives_of, side_item_taken, side_taken, side_noted, is_write_due, off_readers, off_writers};
 
 use crate::dials::Dial;
 use crate::input::Input;
@@ -249,7 +249,8 @@ impl Side {
     /// One read came out so, into a buffer. The one error is want of memory.
     pub(crate) fn read(&mut self, moved: Moved, buffer: &[u8]) -> Result<(), Mem>
         requires { IsWithin (length buffer.now) moved }
-        ensures { OnOk result (self.new ≡ side_read self.old moved buffer.now) }
+        ensures side { OnOk result (self.new ≡ side_read self.old moved buffer.now) }
+        ensures memory { OnErr result ((count : _) × (moved ≡ Moved.Bytes count)) }
     {
         match moved {
             Moved::Bytes(count) => {
@@ -381,6 +382,7 @@ impl Side {
         ensures open { IfOk result (λ item. IfSome item (λ x. x ≢ LinkItem.End)) }
         ensures item { IfOk result (λ item. item ≡ side_item_taken self.old) }
         ensures rest { OnOk result (self.new ≡ side_taken self.old) }
+        ensures memory { OnErr result (is_whole self.old ≡ true) }
     {
         let bytes = match self.front() {
             Front::Piece(bytes) => Bytes::from_slice(alloc, bytes)?,

@@ -1,6 +1,8 @@
 //! The sockets of a link, and what is to be done with them.
 
-ghost use Rattle.std.specs.Prelude.{◌≡◌, ◌++◌, ◌∷◌, [], true, OnOk, if◌then◌else◌};
+ghost use Rattle.std.specs.Prelude.{◌≡◌, ◌≢◌, ◌⊎◌, ◌<◌, ◌++◌, ◌∷◌, [], true, false, None, OnOk, OnErr, vec_len, if◌then◌else◌};
+ghost use Rattle.mio.specs.Event.{event_token};
+ghost use Rattle.tcp_link.specs.Connections.{conn_at};
 ghost use Rattle.tcp_link.specs.Names.{dial_again};
 ghost use Rattle.tcp_link.specs.Queues.{with_told};
 ghost use Rattle.tcp_link.specs.Waits.{redial};
@@ -59,6 +61,7 @@ pub(crate) fn list(
 ) -> Result<(), Mem>
     ensures on { OnOk result (is_listed.new ≡ true) }
     ensures last { OnOk result (queue.new.items ≡ (if is_listed.old then queue.old.items else queue.old.items ++ token ∷ [])) }
+    ensures memory { OnErr result (is_listed.old ≡ false) }
 {
     if !*is_listed {
         queue.push_back(token)?;
@@ -93,7 +96,9 @@ impl Sockets {
     }
 
     // Takes note of an event at a door.
-    fn note_door(&mut self, number: usize) -> Result<(), Mem> {
+    fn note_door(&mut self, number: usize) -> Result<(), Mem>
+        ensures memory { OnErr result (number < vec_len self.old.doors) }
+    {
         match self.doors.get_mut(number) {
             Some(door) => list(&mut door.is_listed, number, &mut self.open_doors),
             // There is no such door.
@@ -102,7 +107,11 @@ impl Sockets {
     }
 
     /// Takes note of an event.
-    pub(crate) fn note(&mut self, event: &Event) -> Result<(), Mem> {
+    pub(crate) fn note(&mut self, event: &Event) -> Result<(), Mem>
+        ensures memory { let token = (event_token event.now).0 in
+            OnErr result ((token < vec_len self.old.doors)
+            ⊎ (conn_at self.old.conns.places token ≢ None)) }
+    {
         let token = event.token().0;
         if let Some(number) = door_of(token) {
             return self.note_door(number);
@@ -123,7 +132,9 @@ impl Sockets {
     }
 
     /// Writes what the connections on the list can take.
-    pub(crate) fn write_all(&mut self) -> Result<(), Mem> {
+    pub(crate) fn write_all(&mut self) -> Result<(), Mem>
+        ensures memory { OnErr result (self.old.writers.items ≢ []) }
+    {
         for _ in 0..self.writers.len() {
             let Some(token) = self.writers.pop_front() else {
                 break;
@@ -133,7 +144,9 @@ impl Sockets {
         Ok(())
     }
 
-    fn write_to(&mut self, token: usize) -> Result<(), Mem> {
+    fn write_to(&mut self, token: usize) -> Result<(), Mem>
+        ensures memory { OnErr result (conn_at self.old.conns.places token ≢ None) }
+    {
         let Some(conn) = self.conns.get_mut(token) else {
             // It is gone.
             return Ok(());
@@ -149,7 +162,9 @@ impl Sockets {
     }
 
     /// Reads once from some clients, each in its turn.
-    pub(crate) fn read_clients(&mut self) -> Result<(), Mem> {
+    pub(crate) fn read_clients(&mut self) -> Result<(), Mem>
+        ensures memory { OnErr result (self.old.readers.clients.items ≢ []) }
+    {
         for _ in 0..self.readers.clients.len().min(CLIENTS_READ_A_TURN) {
             let Some(token) = self.readers.clients.pop_front() else {
                 break;
@@ -160,7 +175,9 @@ impl Sockets {
     }
 
     /// Reads once from each connection on the list of those that aren't clients'.
-    pub(crate) fn read_all(&mut self) -> Result<(), Mem> {
+    pub(crate) fn read_all(&mut self) -> Result<(), Mem>
+        ensures memory { OnErr result (self.old.readers.others.items ≢ []) }
+    {
         for _ in 0..self.readers.others.len() {
             let Some(token) = self.readers.others.pop_front() else {
                 break;
@@ -170,7 +187,9 @@ impl Sockets {
         Ok(())
     }
 
-    fn read_from(&mut self, token: usize) -> Result<(), Mem> {
+    fn read_from(&mut self, token: usize) -> Result<(), Mem>
+        ensures memory { OnErr result (conn_at self.old.conns.places token ≢ None) }
+    {
         let Some(conn) = self.conns.get_mut(token) else {
             // It is gone.
             return Ok(());
@@ -191,7 +210,9 @@ impl Sockets {
     }
 
     // Puts a connection among those that have pieces, if it has one. With a length that isn't allowed it ends.
-    fn list_piece(&mut self, token: usize) -> Result<(), Mem> {
+    fn list_piece(&mut self, token: usize) -> Result<(), Mem>
+        ensures memory { OnErr result (conn_at self.old.conns.places token ≢ None) }
+    {
         let Some(conn) = self.conns.get_mut(token) else {
             // It is gone.
             return Ok(());
@@ -204,6 +225,8 @@ impl Sockets {
     pub(crate) fn closed(&mut self, told: Option<News>, dial: Option<Dial>) -> Result<(), Mem>
         ensures told { OnOk result (self.new.agenda ≡ with_told self.old.agenda told) }
         ensures again { OnOk result (self.new.retries.waiting.items ≡ self.old.retries.waiting.items ++ redial self.old.retries.clock (dial_again self.old.is_client dial)) }
+        ensures memory { OnErr result ((told ≢ None)
+            ⊎ (dial_again self.old.is_client dial ≢ None)) }
     {
         self.agenda.add_told(told)?;
         match dial_again(self.is_client, dial) {

@@ -1,5 +1,7 @@
 //! Descriptors that are held for peers.
 
+ghost use Rattle.std.specs.Prelude.{◌<◌, OnErr, vec_len};
+
 use mio::Poll;
 use ritas_base::Mem;
 use std::alloc::Global;
@@ -27,7 +29,9 @@ impl Spares {
     }
 
     /// Takes as many as are missing and to be had. The one error is want of memory.
-    pub(crate) fn fill<R: Net>(&mut self, rt: &R) -> Result<(), Mem> {
+    pub(crate) fn fill<R: Net>(&mut self, rt: &R) -> Result<(), Mem>
+        ensures memory { OnErr result (vec_len self.old.polls < self.old.wanted) }
+    {
         for _ in self.polls.len()..self.wanted {
             match Poll::new(rt) {
                 Ok(poll) => self.polls.push(poll)?,

@@ -22,7 +22,7 @@ loop-at-preserved c =
     let file = c.args.file.now in
     let at = c.loop-at.at in
     let fits : IsBytes file = λ i. omega (arith, c.type_inv.file i) in
-    let read : record_in c.args.me (drop (at + 1) file) ≡ Some (c.in-Some.event, c.in-Some.size) = rw take_rest at (sym c.in_ok-event.ensures ∙ c.in-Some.is) in
+    let read : record_in c.args.me (drop (at + 1) file) ≡ Some (c.in-Some.event, c.in-Some.size) = rw take_rest at (sym c.in_ok-event.ensures.event ∙ c.in-Some.is) in
     let begins = record_found c.args.me (drop (at + 1) file) c.in-Some.event c.in-Some.size (dropped file (at + 1) fits) read in
     let is_open : get_or file at 0 ≡ 1 = c.loop-at-test.true in
     let pushed : c.push.new.self.items ≡ c.loop-at.events.items ++ c.in-Some.event ∷ [] = search rules in
@@ -36,6 +36,6 @@ returns-in-None-clause-broken c = λ p is.
     let file = c.args.file.now in
     let at = c.loop-at.at in
     let same : p ≡ at = cc (sym is) in
-    let none : record_in c.args.me (drop (at + 1) file) ≡ None = rw take_rest at (sym c.in_ok-event.ensures ∙ c.in-None.is) in
+    let none : record_in c.args.me (drop (at + 1) file) ≡ None = rw take_rest at (sym c.in_ok-event.ensures.event ∙ c.in-None.is) in
     let is_open : get_or file at 0 ≡ 1 = c.loop-at-test.true in
     rw same (reverse c.loop-at.events.items, c.loop-at.invariant.0, is_open, record_none c.args.me (drop (at + 1) file) none)

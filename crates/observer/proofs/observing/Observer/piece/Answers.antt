@@ -19,14 +19,14 @@ items_read bytes new items none read =
 pub keep_rows-requires-clause-below : goal.keep_rows-requires-clause-below
 keep_rows-requires-clause-below c =
     let ready = c.in_default.ensures.none in
-    let items = items_read c.args.bytes.now c.new-rows.result.items c.read_rows.new.rows.items c.new-rows.ensures.items c.in-Ok.ensures in
+    let items = items_read c.args.bytes.now c.new-rows.result.items c.read_rows.new.rows.items c.new-rows.ensures.items c.in-Ok.ensures.rows in
     let count : length c.read_rows.new.rows.items ≡ row_count_in c.args.bytes.now = ap length items ∙ rows_count (row_count_in c.args.bytes.now) (drop 6 c.args.bytes.now) in
     omega (arith, ready.whole.below, count, c.number_at-first.ensures)
 
 pub keep_rows-requires-clause-near : goal.keep_rows-requires-clause-near
 keep_rows-requires-clause-near c = λ some.
     let ready = c.in_default.ensures.none in
-    let items = items_read c.args.bytes.now c.new-rows.result.items c.read_rows.new.rows.items c.new-rows.ensures.items c.in-Ok.ensures in
+    let items = items_read c.args.bytes.now c.new-rows.result.items c.read_rows.new.rows.items c.new-rows.ensures.items c.in-Ok.ensures.rows in
     let count : length c.read_rows.new.rows.items ≡ row_count_in c.args.bytes.now = ap length items ∙ rows_count (row_count_in c.args.bytes.now) (drop 6 c.args.bytes.now) in
     let fits = ready.near (omega (arith, some, count)) in
     let log = ap length (ap (λ (o : Watcher). o.rows) c.self.view_is) in
@@ -37,7 +37,7 @@ returns-clause-taken c = λ p h stands.
     let ready = c.in_default.ensures.none in
     let rows = c.reserve.new.self.items in
     let g : Gift = record { from = c.args.from; piece = piece_in c.args.bytes.now } in
-    let items = items_read c.args.bytes.now c.new-rows.result.items c.read_rows.new.rows.items c.new-rows.ensures.items c.in-Ok.ensures in
+    let items = items_read c.args.bytes.now c.new-rows.result.items c.read_rows.new.rows.items c.new-rows.ensures.items c.in-Ok.ensures.rows in
     let count = rows_count (row_count_in c.args.bytes.now) (drop 6 c.args.bytes.now) in
     let same : record { n = c.self.inside.n; f = c.self.inside.f } ≡ p = ap (λ (o : Watcher). o.numbers) c.self.view_is ∙ stands.numbers in
     let log : c.args.self.now.rows ≡ reverse rows = sym (ap reverse c.in-Ok-reserve.ensures.items ∙ ap (λ (o : Watcher). o.rows) c.self.view_is) in

@@ -1,5 +1,6 @@
-use Rattle.std.proofs.Common.{◌≡◌, ◌<◌, true, List, ◌∷◌, length, reverse, inl, inr, arith}
+use Rattle.std.proofs.Common.{◌≡◌, ◌<◌, true, List, ◌∷◌, length, reverse, inl, inr, arith, ◌∙◌, ap, subst}
 use Rattle.std.proofs.lemmas.Result.{err_from_is_err_and}
+use Rattle.std.proofs.lemmas.List.{length-reverse}
 use Rattle.keyed_channel.specs.KeyRow.{KeyRow}
 use Rattle.ritas_core.specs.Rules.{Rules, seat_of}
 use Rattle.ritas_core.specs.Parts.{Entry, parts}
@@ -7,7 +8,7 @@ use Rattle.ritas_core.specs.Machine.{CoreState}
 use Rattle.ritas_core.specs.Stands.{Meaning, CoreStands}
 use Rattle.replica.specs.CommandRows.{ids_at, Follows}
 use Rattle.replica.specs.Replica.{with_keys}
-use Rattle.replica.proofs.Feeding.{rest_of, done_by, not_short, have_all, has_room, stood, follows_now, lies_between, follows_between}
+use Rattle.replica.proofs.Feeding.{rest_of, more_left, done_by, not_short, have_all, has_room, stood, follows_now, lies_between, follows_between}
 use Rattle.replica.proofs.replica.Replica.feed.Goals as goal
 
 pub returns-clause-ok : goal.returns-clause-ok
@@ -76,3 +77,17 @@ returns-in_err-follow-clause-err g c =
     (have_all m values words proper core r st stands e h is done shows c.args.self.now.log c.args.self.now.fed before c.in-Some.ids.now rest) (ids_at r h)
     (has_room m values words proper core r st stands e h is done shows c.args.self.now.log c.args.self.now.fed before c.in-Some.ids.now rest)
     (stood m values words proper core r st stands e h is done shows c.args.self.now.log c.args.self.now.fed before)))
+
+pub returns-in_err-follow-clause-memory : goal.returns-in_err-follow-clause-memory
+returns-in_err-follow-clause-memory g c =
+    let b = g.E.Broadcast in
+    let m : Meaning g.row.S.Denot g.row.E.Denot g.row.C.Denot KeyRow = with_keys g.S.Service.stands g.S.Service.rules g.S.Service.shown b.stands b.rules b.shown g.C.Coin.bits in
+    let core = c.args.self.now.core in
+    let done = c.done-done.result.now in
+    let found = c.in-Some.ensures.lookup.0 in
+    let rest = rest_of done c.in-Some.ids.now c.args.self.now.fed found.0 found.2 in
+    let more = more_left done c.in-Some.ids.now c.args.self.now.fed rest c.in_err-follow.ensures.memory in
+    let p = err_from_is_err_and c.from_residual.result c.from_residual.ensures.1 in
+    rw p.1 (λ r st stands live.
+    let shows = done_by m core r st stands done (c.done-done.ensures.rules (seat_of r) (parts r st.history).words (c.service.ensures.live r st stands live)) in
+    omega (arith, more, ap length shows, length-reverse (ids_at r st.history)))

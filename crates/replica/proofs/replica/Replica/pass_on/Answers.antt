@@ -1,4 +1,4 @@
-use Rattle.std.proofs.Common.{◌∙◌}
+use Rattle.std.proofs.Common.{◌∙◌, inr}
 use Rattle.std.proofs.lemmas.Result.{on_ok_weaker, on_err_weaker}
 use Rattle.keyed_channel.specs.KeyRow.{KeyRow}
 use Rattle.ritas_core.specs.Stands.{Meaning}
@@ -32,3 +32,6 @@ returns-clause-err g c =
       some_kept m c.args.self.now c.feed.new.self c.put_out.new.self only same c.in_ok-feed.ensures.ok.some,
     ))
     c.put_out.ensures.err
+
+pub returns-clause-memory : goal.returns-clause-memory
+returns-clause-memory g c = on_err_weaker c.put_out.result (λ some. inr some) c.put_out.ensures.memory
