@@ -8,3 +8,4 @@ pub mod InOrder
 pub mod Places
 pub mod Peers
 pub mod Clearing
+pub mod FirstOnes

@@ -23,13 +23,6 @@ pub(crate) struct Spot {
     pub(crate) stamp: u64,
 }
 
-/// Which items are asked: each, or of each group the first ones, up to one that fails.
-#[derive(Clone, Copy)]
-pub(crate) enum Walk {
-    Items,
-    Groups,
-}
-
 // The slot that stands for those of one class, number and attempt.
 fn plain_slot(slot: Slot) -> Slot
     ensures { result ≡ plain_slot slot }
@@ -59,19 +52,16 @@ impl Group {
     }
 }
 
-impl Walk {
-    // Behind which spot it goes on, where the item at this one fails.
-    pub(crate) fn behind(self, spot: Spot) -> Spot
-        ensures spot { result ≡ spot_behind self spot }
-        ensures later { is_gt (spot_cmp spot result) ≡ false }
+impl Spot {
+    // Behind all of its group.
+    pub(crate) fn behind(self) -> Spot
+        ensures spot { result ≡ spot_behind self }
+        ensures later { is_gt (spot_cmp self result) ≡ false }
     {
-        match self {
-            Walk::Items => spot,
-            Walk::Groups => Spot {
-                bround: u8::MAX,
-                stamp: u64::MAX,
-                ..spot
-            },
+        Spot {
+            bround: u8::MAX,
+            stamp: u64::MAX,
+            ..self
         }
     }
 }

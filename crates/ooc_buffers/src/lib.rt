@@ -13,11 +13,13 @@
 //! counts how many items have one kind and slot, and for columns one mark of the value. So to look for an item and to ask
 //! for the held bytes costs a look-up; only for a column whose mark is there the items are searched.
 //!
-//! `release` and `forget` ask each item. `release_groups` and `forget_groups` ask the items of a group by their rounds, and
-//! where one fails they go on behind the group. What has moved is put in the order of the stamps.
+//! Beside them stands, for each group, something like its first item: its kind and slot, of the least round that the group
+//! has. `release` and `forget` ask these first, and only where one passes they ask the items of a group by their rounds, and go
+//! on behind the group where one fails. What has moved is put in the order of the stamps.
 #![tactic(auto)]
 
 mod entry;
+mod firsts;
 mod group;
 mod held;
 mod key;
