@@ -13,10 +13,10 @@ use Rattle.ritas_base.specs.declared.slot.Slot.{Slot}
 use Rattle.ritas_base.specs.declared.item.Item.{Item}
 use Rattle.ritas_base.specs.Messages.{kind_rank, kind_eq}
 use Rattle.ritas_base.specs.SlotOrder.{is_slot, same_slot, slot_itself, equal_from}
-use Rattle.ooc_buffers.specs.Lists.{HeldItem, passing, failing}
+use Rattle.ooc_buffers.specs.Lists.{HeldItem}
 use Rattle.ooc_buffers.specs.Groups.{group_of, GoesBy, AreRight}
 use Rattle.ooc_buffers.specs.Moves.{NonePasses}
-use Rattle.ooc_buffers.specs.Spots.{group_cmp, spot_cmp, Spotted, held_in, in_order, pass, fail, IsAt, AreAt, Leaves, rest_from, spot_behind}
+use Rattle.ooc_buffers.specs.Spots.{group_cmp, spot_cmp, Spotted, held_in, in_order, pass, IsAt, AreAt, Leaves, rest_from, spot_behind}
 use Rattle.ooc_buffers.specs.Firsts.{likeness, is_like, HasUpTo, AreCovered, AreOwn, AreLike, AreFirsts, IsNoted}
 use Rattle.ooc_buffers.specs.declared.group.Group.{Group}
 use Rattle.ooc_buffers.specs.declared.group.Spot.{Spot}

@@ -146,7 +146,7 @@ order_more e old new left ats =
     ∙ ap (λ (l : List Spotted). in_order l ++ e.1 ∷ []) (sym left.now)))
 
 later : (next : ℕ) (e : Spotted) → IsAt next e → IsAt (next + 1) e
-later next e at = let early = at.stamp in record { group = at.group; bround = at.bround; stamp = omega (arith, early) }
+later next e at = let early = at.stamp in record { group = at.group; bround = at.bround; mark = at.mark; stamp = omega (arith, early) }
 
 all_later : (next : ℕ) (front : List Spotted) (e : Spotted) (back : List Spotted) → IsAt (next + 1) e → AreAt next (front ++ back) → AreAt (next + 1) (front ++ e ∷ back)
 all_later next [] e [] at ats = (at, tt)

@@ -9,3 +9,4 @@ pub mod Places
 pub mod Peers
 pub mod Clearing
 pub mod FirstOnes
+pub mod Ranges

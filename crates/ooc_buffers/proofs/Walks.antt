@@ -29,7 +29,8 @@ pub groups_total : IsTotalOrder group_cmp
 groups_total = then_total (on_total (λ g. g.is_column) bool_cmp_total) (on_total (λ g. g.slot) slots_total)
 
 pub spots_total : IsTotalOrder spot_cmp
-spots_total = then_total (on_total (λ s. s.group) groups_total) (then_total (on_total (λ s. s.bround) nat_cmp_total) (on_total (λ s. s.stamp) nat_cmp_total))
+spots_total = then_total (on_total (λ s. s.group) groups_total) (then_total (on_total (λ s. s.bround) nat_cmp_total)
+    (then_total (on_total (λ s. s.mark) nat_cmp_total) (on_total (λ s. s.stamp) nat_cmp_total)))
 
 exact_bool : CmpEqualImpliesEq bool_cmp
 exact_bool true true e = refl
@@ -46,12 +47,21 @@ exact_groups a b h = ap as_group (exact_pairs bool_cmp slot_cmp exact_bool exact
 abbrev two_cmp : ℕ × ℕ → ℕ × ℕ → Ordering
 two_cmp x y = ordering_then (nat_cmp x.0 y.0) (nat_cmp x.1 y.1)
 
-abbrev as_spot : Group × (ℕ × ℕ) → Spot
-as_spot x = record { group = x.0; bround = x.1.0; stamp = x.1.1 }
+abbrev three_cmp : ℕ × (ℕ × ℕ) → ℕ × (ℕ × ℕ) → Ordering
+three_cmp x y = ordering_then (nat_cmp x.0 y.0) (two_cmp x.1 y.1)
+
+abbrev as_spot : Group × (ℕ × (ℕ × ℕ)) → Spot
+as_spot x = record { group = x.0; bround = x.1.0; mark = x.1.1.0; stamp = x.1.1.1 }
+
+exact_two : CmpEqualImpliesEq two_cmp
+exact_two = exact_pairs nat_cmp nat_cmp exact_unsigned exact_unsigned
+
+exact_three : CmpEqualImpliesEq three_cmp
+exact_three = exact_pairs nat_cmp two_cmp exact_unsigned exact_two
 
 pub exact_spots : CmpEqualImpliesEq spot_cmp
 exact_spots a b h =
-    ap as_spot (exact_pairs group_cmp two_cmp exact_groups (exact_pairs nat_cmp nat_cmp exact_unsigned exact_unsigned) (a.group, (a.bround, a.stamp)) (b.group, (b.bround, b.stamp)) h)
+    ap as_spot (exact_pairs group_cmp three_cmp exact_groups exact_three (a.group, (a.bround, (a.mark, a.stamp))) (b.group, (b.bround, (b.mark, b.stamp))) h)
 
 -- ---- the order
 
@@ -84,20 +94,6 @@ further (Included a) s b q on low far =
     let less = through s b q (spot_cmp s b) refl low (less_from _ (and_parts (is_lt (spot_cmp b q)) true far).0) in
     let first = not_gt _ (and_parts (is_le (spot_cmp a s)) true on).0 in
     ap (λ r. is_le r && true) (through a s q (spot_cmp a s) refl first less)
-
-low_by : (a b c d : ℕ) (r s : Ordering) → MatchOrdering r (a < b) (a ≡ b) (b < a) → MatchOrdering s (c < d) (c ≡ d) (d < c) → a ≤ b → c ≤ d
-    → is_gt (ordering_then r s) ≡ false
-low_by a b c d Less s m n low less = refl
-low_by a b c d Equal Less m n low less = refl
-low_by a b c d Equal Equal m n low less = refl
-low_by a b c d Equal Greater m n low less = absurd (omega (arith, n, less))
-low_by a b c d Greater s m n low less = absurd (omega (arith, m, low))
-
-pub no_less : (s : Spot) → s.bround ≤ 255 → s.stamp ≤ 18446744073709551615 → is_gt (spot_cmp s (spot_behind s)) ≡ false
-no_less s low less =
-    ap (λ r. is_gt (ordering_then r (ordering_then (nat_cmp s.bround 255) (nat_cmp s.stamp 18446744073709551615)))) (tied_itself groups_total s.group)
-    ∙ low_by s.bround 255 s.stamp 18446744073709551615 (nat_cmp s.bround 255) (nat_cmp s.stamp 18446744073709551615)
-    (ranked s.bround 255 (nat_cmp s.bround 255) refl) (ranked s.stamp 18446744073709551615 (nat_cmp s.stamp 18446744073709551615) refl) low less
 
 pub itself_no_less : (s : Spot) → is_gt (spot_cmp s s) ≡ false
 itself_no_less s = ap is_gt (tied_itself spots_total s)
@@ -202,13 +198,14 @@ low_round b b' Greater s m e = absurd (cc)
 besides : (s q : Spot) (r : Ordering) → group_cmp s.group q.group ≡ r → spot_cmp s q ≡ Less
     → (is_on (Excluded (spot_behind s)) q ≡ true) ⊎ ((s.group ≡ q.group) × (s.bround ≤ q.bround))
 besides s q Less is less =
-    inl (ap (λ r. is_lt (ordering_then r (ordering_then (nat_cmp 255 q.bround) (nat_cmp 18446744073709551615 q.stamp))) && true) is)
+    inl (ap (λ r. is_lt (ordering_then r (ordering_then (nat_cmp 255 q.bround) (two_cmp (18446744073709551615, 18446744073709551615) (q.mark, q.stamp)))) && true) is)
 besides s q Equal is less =
-    let rest : ordering_then (nat_cmp s.bround q.bround) (nat_cmp s.stamp q.stamp) ≡ Less =
-    sym (ap (λ r. ordering_then r (ordering_then (nat_cmp s.bround q.bround) (nat_cmp s.stamp q.stamp))) is) ∙ less in
-    inr (exact_groups s.group q.group is, low_round s.bround q.bround (nat_cmp s.bround q.bround) (nat_cmp s.stamp q.stamp) (ranked s.bround q.bround (nat_cmp s.bround q.bround) refl) rest)
+    let more = two_cmp (s.mark, s.stamp) (q.mark, q.stamp) in
+    let rest : ordering_then (nat_cmp s.bround q.bround) more ≡ Less = sym (ap (λ r. ordering_then r (ordering_then (nat_cmp s.bround q.bround) more)) is) ∙ less in
+    inr (exact_groups s.group q.group is, low_round s.bround q.bround (nat_cmp s.bround q.bround) more (ranked s.bround q.bround (nat_cmp s.bround q.bround) refl) rest)
 besides s q Greater is less =
-    let high : Greater ≡ Less = sym (ap (λ r. ordering_then r (ordering_then (nat_cmp s.bround q.bround) (nat_cmp s.stamp q.stamp))) is) ∙ less in
+    let more = two_cmp (s.mark, s.stamp) (q.mark, q.stamp) in
+    let high : Greater ≡ Less = sym (ap (λ r. ordering_then r (ordering_then (nat_cmp s.bround q.bround) more)) is) ∙ less in
     absurd (cc)
 
 pub beside : (s q : Spot) → spot_cmp s q ≡ Less → (is_on (Excluded (spot_behind s)) q ≡ true) ⊎ ((s.group ≡ q.group) × (s.bround ≤ q.bround))

@@ -13,17 +13,17 @@ use Rattle.ritas_base.specs.declared.item.Item.{Item}
 use Rattle.ritas_base.specs.SlotOrder.{slot_cmp}
 use Rattle.ooc_buffers.specs.Lists.{HeldItem}
 use Rattle.ooc_buffers.specs.Groups.{group_of}
-use Rattle.ooc_buffers.specs.Keys.{IsKeyIndexed}
+use Rattle.ooc_buffers.specs.Keys.{mark_of, IsKeyIndexed}
 use Rattle.ooc_buffers.specs.declared.group.Group.{Group}
 use Rattle.ooc_buffers.specs.declared.group.Spot.{Spot}
 use Rattle.ooc_buffers.specs.declared.key.Key.{Key}
 
--- the order of spots: by group, then by round, then by stamp
+-- the order of spots: by group, then by round, then by mark, then by stamp
 abbrev pub group_cmp : Group → Group → Ordering
 group_cmp = then_cmp (on (λ g. g.is_column) bool_cmp) (on (λ g. g.slot) slot_cmp)
 
 abbrev pub spot_cmp : Spot → Spot → Ordering
-spot_cmp = then_cmp (on (λ s. s.group) group_cmp) (then_cmp (on (λ s. s.bround) nat_cmp) (on (λ s. s.stamp) nat_cmp))
+spot_cmp = then_cmp (on (λ s. s.group) group_cmp) (then_cmp (on (λ s. s.bround) nat_cmp) (then_cmp (on (λ s. s.mark) nat_cmp) (on (λ s. s.stamp) nat_cmp)))
 
 -- an item with its spot
 abbrev pub Spotted : Type 0
@@ -53,10 +53,11 @@ pass t xs = filter (λ e. t e.1.item) xs
 abbrev pub fail : (Item → Bool) → List Spotted → List Spotted
 fail t xs = filter (λ e. not (t e.1.item)) xs
 
--- an item stands where its group, its round and a stamp say
+-- an item stands where its group, its round, its mark and a stamp say
 pub record IsAt (next : ℕ) (e : Spotted) : Type 0 where
   pub group : e.0.group ≡ group_of e.1.item
   pub bround : e.0.bround ≡ e.1.item.slot.bround
+  pub mark : e.0.mark ≡ mark_of e.1.item
   pub stamp : e.0.stamp < next
 
 abbrev pub AreAt : ℕ → List Spotted → Type 0
@@ -82,7 +83,7 @@ rest_from from xs = entries_between spot_cmp from Unbounded xs
 
 -- behind all of a spot's group
 abbrev pub spot_behind : Spot → Spot
-spot_behind spot = record { group = spot.group; bround = 255; stamp = 18446744073709551615 }
+spot_behind spot = record { group = spot.group; bround = 255; mark = 18446744073709551615; stamp = 18446744073709551615 }
 
 -- there is an item at the spot, which is from there on
 pub record Steps (from : Bound Spot) (xs : List Spotted) (spot : Spot) : Type 0 where

@@ -15,11 +15,13 @@ pub(crate) struct Group {
     slot: Slot,
 }
 
-/// Where an item is kept: by its group, its round, and a stamp that grows with each item that is held.
+/// Where an item is kept: by its group, its round, the mark of its value where it is a column, and a stamp that grows with
+/// each item that is held.
 #[derive(Clone, Copy, PartialEq, Eq, PartialOrd, Ord)]
 pub(crate) struct Spot {
     pub(crate) group: Group,
     pub(crate) bround: u8,
+    pub(crate) mark: u64,
     pub(crate) stamp: u64,
 }
 
@@ -60,6 +62,7 @@ impl Spot {
     {
         Spot {
             bround: u8::MAX,
+            mark: u64::MAX,
             stamp: u64::MAX,
             ..self
         }

@@ -10,7 +10,7 @@ ghost use Rattle.ooc_buffers.specs.Lists.{HeldItem, is_same_item, passing, faili
 ghost use Rattle.ooc_buffers.specs.Closures.{Computes};
 ghost use Rattle.ooc_buffers.specs.Groups.{GoesBy, AreRight};
 ghost use Rattle.ooc_buffers.specs.Moves.{NonePasses, Releases};
-ghost use Rattle.ooc_buffers.specs.Keys.{CountsKeys};
+ghost use Rattle.ooc_buffers.specs.Keys.{mark_of, CountsKeys};
 ghost use Rattle.ooc_buffers.specs.Spots.{held_in, AreAt, Leaves};
 
 use crate::entry::{Entry, is_same};
@@ -24,6 +24,7 @@ use ritas_base::{Item, Kind, Mem};
 use std::alloc::Global;
 use std::collections::{BTreeMap, VecDeque};
 use std::marker::Model;
+use std::ops::Bound;
 
 // Passes the items on to the inbox, as far as it has room. Answers how many bytes they had.
 fn pass_on(
@@ -60,11 +61,23 @@ fn keep(items: &mut BTreeMap<Spot, Entry>, spot: Spot, entry: Entry) -> Result<(
     Ok(())
 }
 
-// Whether the item is among these.
-fn holds(items: &BTreeMap<Spot, Entry>, item: &Item) -> bool
-    ensures { result ≡ list_any (λ k. is_same_item item.now k.item) (held_in items.now.entries) }
+// Whether the item is among these, whose stamps are below the next one: it is looked for among those of its group, round and
+// mark.
+fn holds(items: &BTreeMap<Spot, Entry>, item: &Item, mark: u64, next: u64) -> bool
+    ensures { AreAt next items.now.entries → mark ≡ mark_of item.now
+        → result ≡ list_any (λ k. is_same_item item.now k.item) (held_in items.now.entries) }
 {
-    for entry in items.values() {
+    let first = Spot {
+        group: Group::of(item),
+        bround: item.slot.bround,
+        mark,
+        stamp: 0,
+    };
+    let behind = Spot {
+        stamp: next,
+        ..first
+    };
+    for (_, entry) in items.range((Bound::Included(first), Bound::Excluded(behind))) {
         if is_same(item, &entry.item) {
             return true;
         }
@@ -139,13 +152,14 @@ impl Peer {
     pub(crate) fn has(&self, item: &Item) -> bool
         ensures { result ≡ list_any (λ k. is_same_item item.now k.item) self.now }
     {
-        if count_of(&self.index, &Key::of(item)) == 0 {
+        let key = Key::of(item);
+        if count_of(&self.index, &key) == 0 {
             return false;
         }
         if !is_column(item.kind) {
             return true;
         }
-        holds(&self.items, item)
+        holds(&self.items, item, key.mark, self.next)
     }
 
     // Holds the item behind the others.
@@ -160,6 +174,7 @@ impl Peer {
         let spot = Spot {
             group: Group::of(&item),
             bround: item.slot.bround,
+            mark: key.mark,
             stamp,
         };
         count_in(&mut self.index, key)?;

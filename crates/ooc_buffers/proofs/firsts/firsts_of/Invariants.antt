@@ -1,4 +1,4 @@
-use Rattle.std.proofs.Common.{◌≡◌, ℕ, length}
+use Rattle.std.proofs.Common.{ℕ, length}
 use Rattle.ooc_buffers.specs.Spots.{rest_from, AreAt}
 use Rattle.ooc_buffers.proofs.FirstOnes.{IsReached}
 use Rattle.ooc_buffers.proofs.firsts.firsts_of.Given as goal

@@ -1,4 +1,3 @@
-use Rattle.std.proofs.Common.{refl}
 use Rattle.ooc_buffers.proofs.FirstOnes.{noted, noted_before}
 use Rattle.ooc_buffers.proofs.firsts.note.Goals as goal
 

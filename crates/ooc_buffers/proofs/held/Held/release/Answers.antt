@@ -1,5 +1,4 @@
-use Rattle.std.proofs.Common.{◌≡◌, ◌++◌, sym, subst, ◌∙◌, ap, OnOk, List}
-use Rattle.ritas_base.specs.declared.item.Item.{Item}
+use Rattle.std.proofs.Common.{◌≡◌, ◌++◌, subst, OnOk, List}
 use Rattle.ooc_buffers.specs.Lists.{HeldItem, released, remaining}
 use Rattle.ooc_buffers.proofs.held.Held.release.Goals as goal
 

@@ -19,14 +19,19 @@ overflow_add-self c =
 
 pub invariant_of-self-in-Ok : goal.invariant_of-self-in-Ok
 invariant_of-self-in-Ok c =
-    let spot : Spot = record { group = c.of.result; bround = c.args.item.slot.bround; stamp = c.self.inside.next } in
+    let spot : Spot = record { group = c.of.result; bround = c.args.item.slot.bround; mark = c.of-key.result.mark; stamp = c.self.inside.next } in
     let held : HeldItem = record { item = c.args.item; len = c.args.len } in
     let left : Leaves (spot, held) c.keep.new.items.entries c.self.inside.items.entries = c.in-Ok.ensures.ok c.self.inside.next refl c.self.invariant.spotted.ats in
     let next : c.in_ok-next.next ≡ c.self.inside.next + 1 = search rules in
     let kept = c.self.invariant.spotted.keyed in
     let sum = sum_left (λ (k : HeldItem). k.len) (spot, held) c.keep.new.items.entries c.self.inside.items.entries left in
     let whole : c.self.inside.bytes ≡ sum_by (λ (k : HeldItem). k.len) (held_in c.self.inside.items.entries) = kept.sum in
-    let at : IsAt (c.self.inside.next + 1) (spot, held) = record { group = c.of.ensures; bround = refl; stamp = omega arith } in
+    let at : IsAt (c.self.inside.next + 1) (spot, held) = record {
+      group = c.of.ensures;
+      bround = refl;
+      mark = ap (λ (k : Key). k.mark) c.of-key.ensures;
+      stamp = omega arith;
+    } in
     record {
       spotted = record {
         ats = rw next (ats_more c.self.inside.next (spot, held) c.self.inside.items.entries c.keep.new.items.entries left
@@ -46,7 +51,7 @@ invariant_of-self-in-Ok c =
 
 pub returns-in-Ok-clause-ok : goal.returns-in-Ok-clause-ok
 returns-in-Ok-clause-ok c =
-    let spot : Spot = record { group = c.of.result; bround = c.args.item.slot.bround; stamp = c.self.inside.next } in
+    let spot : Spot = record { group = c.of.result; bround = c.args.item.slot.bround; mark = c.of-key.result.mark; stamp = c.self.inside.next } in
     let held : HeldItem = record { item = c.args.item; len = c.args.len } in
     let left : Leaves (spot, held) c.keep.new.items.entries c.self.inside.items.entries = c.in-Ok.ensures.ok c.self.inside.next refl c.self.invariant.spotted.ats in
     order_more (spot, held) c.self.inside.items.entries c.keep.new.items.entries left c.self.invariant.spotted.ats
