@@ -24,7 +24,7 @@ group_of item = record {
 abbrev pub OpensByGroups : (Slot → Bool) → (Item → Bool) → Type 0
 OpensByGroups right t = (x y : Item) → right x.slot ≡ true → right y.slot ≡ true → group_of x ≡ group_of y → x.slot.bround ≤ y.slot.bround → t y ≡ true → t x ≡ true
 
--- the test opens by groups; a record, so that nothing unfolds it
+-- the test opens by groups, as a record that is passed on whole
 pub record GoesBy (right : Slot → Bool) (t : Item → Bool) : Type 0 where
   pub opens : OpensByGroups right t
 

@@ -5,3 +5,4 @@ pub mod Keys
 pub mod Groups
 pub mod Spots
 pub mod Firsts
+pub mod Tests

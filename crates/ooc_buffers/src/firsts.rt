@@ -30,7 +30,8 @@ pub(crate) fn likeness(alloc: Global, item: &Item) -> Item
 // Whether a group has a first of no later round.
 fn has_up_to(firsts: &BTreeMap<Group, Item>, group: &Group, bround: u8) -> bool
     ensures yes { result ≡ true → HasUpTo firsts.now group.now bround }
-    ensures no { result ≡ false → (first : Item) → get group_cmp firsts.now group.now ≡ Some first → bround ≤ first.slot.bround }
+    ensures no { result ≡ false → (first : Item)
+        → get group_cmp firsts.now group.now ≡ Some first → bround ≤ first.slot.bround }
 {
     match firsts.get(group) {
         Some(first) => first.slot.bround <= bround,
@@ -66,7 +67,8 @@ pub(crate) fn firsts_of(
     alloc: Global,
     items: &BTreeMap<Spot, Entry>,
 ) -> Result<BTreeMap<Group, Item>, Mem>
-    ensures { IfOk result (λ firsts. (next : ℕ) → AreAt next items.now.entries → AreFirsts firsts items.now.entries) }
+    ensures { IfOk result (λ firsts. (next : ℕ)
+        → AreAt next items.now.entries → AreFirsts firsts items.now.entries) }
 {
     let mut firsts = BTreeMap::new(alloc);
     let mut from = Bound::Unbounded;
@@ -80,7 +82,8 @@ pub(crate) fn firsts_of(
 // Whether one of the firsts passes the test.
 pub(crate) fn any_passes<F: Fn(&Item) -> bool>(firsts: &BTreeMap<Group, Item>, test: &F) -> bool
     requires { F.IsAlwaysCallable test.now }
-    ensures { (t : Item → Bool) → Computes F.Fn test.now t → result ≡ list_any t (values firsts.now) }
+    ensures { (t : Item → Bool) → Computes F.Fn test.now t
+        → result ≡ list_any t (values firsts.now) }
 {
     for first in firsts.values() {
         if test(first) {

@@ -1,12 +1,10 @@
-//! The items that are held for all peers, each with a limit of its own: they are released by peer, in the order in which they came.
+//! The items that are held for all peers, each with a limit of its own: they are released by peer, in the order in which they
+//! came.
 
 ghost use Rattle.std.specs.Prelude.{◌≡◌, ℕ, ◌+◌, ◌<◌, ◌≤◌, ◌↔◌, Bool, [], ◌++◌, length, replicate, Err, OnOk, OnErr, IfOk, false};
 ghost use Rattle.std.specs.VecDeque.{deque_len, deque_capacity};
-ghost use Rattle.ritas_base.specs.declared.item.Item.{Item};
-ghost use Rattle.ritas_base.specs.declared.slot.Slot.{Slot};
 ghost use Rattle.ooc_buffers.specs.Lists.{is_held, held_bytes, most_held_bytes, bytes_if_full, with_item_held, released, remaining, busy_peers};
-ghost use Rattle.ooc_buffers.specs.Closures.{Computes};
-ghost use Rattle.ooc_buffers.specs.Groups.{OpensByGroups, GoesBy, EndsByGroups, AreAllRight};
+ghost use Rattle.ooc_buffers.specs.Tests.{ByGroups, ByWholeGroups};
 
 use crate::entry::Entry;
 use crate::group::Spot;
@@ -93,7 +91,8 @@ impl Held {
         requires is_new { is_held self.old item ≡ false }
         requires sender { item.from < length self.old }
         ensures ok { OnOk result (self.new ≡ with_item_held self.old item len) }
-        ensures full { (b : ℕ) → (result ≡ Err (HoldFault.HeldFull b)) ↔ ((b ≡ held_bytes self.old item.from) × (most_held_bytes < b + len)) }
+        ensures full { (b : ℕ) → (result ≡ Err (HoldFault.HeldFull b))
+            ↔ ((b ≡ held_bytes self.old item.from) × (most_held_bytes < b + len)) }
         ensures err { OnErr result (self.new ≡ self.old) }
     {
         let peer = &mut self.peers[item.from as usize];
@@ -147,8 +146,8 @@ impl Held {
     ///
     /// The test goes by groups: where an item passes, those of its group pass whose round is no later. The groups are those
     /// of `group_of`, and `right` says of the items at which slots the test goes by groups: those that are held must be
-    /// so. Where none passes, only something like the first item of each group is asked. The one error is want of memory, after
-    /// which nothing has moved.
+    /// so. The test is first asked something like an item of each group's least round, with an empty value. Only where it
+    /// passes one it is asked the items. The one error is want of memory, after which nothing has moved.
     pub fn release<F: Fn(&Item) -> bool>(
         &mut self,
         alloc: Global,
@@ -156,10 +155,10 @@ impl Held {
         inbox: &mut VecDeque<Item>,
     ) -> Result<(), Mem>
         requires { F.IsAlwaysCallable is_open }
-        ensures moved { (t : Item → Bool) (right : Slot → Bool) → Computes F.Fn is_open t → OpensByGroups right t → AreAllRight right self.old
-            → OnOk result (inbox.new.items ≡ inbox.old.items ++ released t self.old) }
-        ensures kept { (t : Item → Bool) (right : Slot → Bool) → Computes F.Fn is_open t → OpensByGroups right t → AreAllRight right self.old
-            → OnOk result (self.new ≡ remaining t self.old) }
+        ensures moved { ByGroups F.Fn is_open self.old (λ t.
+            OnOk result (inbox.new.items ≡ inbox.old.items ++ released t self.old)) }
+        ensures kept { ByGroups F.Fn is_open self.old (λ t.
+            OnOk result (self.new ≡ remaining t self.old)) }
         ensures err { OnErr result ((inbox.new.items ≡ inbox.old.items) × (self.new ≡ self.old)) }
     {
         self.refresh(alloc);
@@ -181,10 +180,10 @@ impl Held {
         inbox: &mut VecDeque<Item>,
     ) -> Result<(), Mem>
         requires { F.IsAlwaysCallable test.now }
-        ensures moved { (t : Item → Bool) (right : Slot → Bool) → Computes F.Fn test.now t → GoesBy right t → AreAllRight right self.old
-            → OnOk result (inbox.new.items ≡ inbox.old.items ++ released t self.old) }
-        ensures kept { (t : Item → Bool) (right : Slot → Bool) → Computes F.Fn test.now t → GoesBy right t → AreAllRight right self.old
-            → OnOk result (self.new ≡ remaining t self.old) }
+        ensures moved { ByGroups F.Fn test.now self.old (λ t.
+            OnOk result (inbox.new.items ≡ inbox.old.items ++ released t self.old)) }
+        ensures kept { ByGroups F.Fn test.now self.old (λ t.
+            OnOk result (self.new ≡ remaining t self.old)) }
         ensures err { OnErr result ((inbox.new.items ≡ inbox.old.items) × (self.new ≡ self.old)) }
     {
         if self.busy == 0 {
@@ -204,12 +203,11 @@ impl Held {
     /// Drops each item for which `is_past` says yes. The others stay, in their order.
     ///
     /// The test ends whole groups: where an item passes, all of its group do. The groups are those of `group_of`, and
-    /// `right` says of the items at which slots the test goes by groups: those that are held must be so. Where none passes,
-    /// only something like the first item of each group is asked.
+    /// `right` says of the items at which slots the test goes by groups: those that are held must be so. It is asked as that
+    /// of `release` is.
     pub fn forget<F: Fn(&Item) -> bool>(&mut self, is_past: F)
         requires { F.IsAlwaysCallable is_past }
-        ensures { (t : Item → Bool) (right : Slot → Bool) → Computes F.Fn is_past t → EndsByGroups right t → AreAllRight right self.old
-            → self.new ≡ remaining t self.old }
+        ensures { ByWholeGroups F.Fn is_past self.old (λ t. self.new ≡ remaining t self.old) }
     {
         self.clear(&is_past);
     }
@@ -217,8 +215,7 @@ impl Held {
     // Drops the items that pass a test that goes by groups.
     fn clear<F: Fn(&Item) -> bool>(&mut self, test: &F)
         requires { F.IsAlwaysCallable test.now }
-        ensures { (t : Item → Bool) (right : Slot → Bool) → Computes F.Fn test.now t → GoesBy right t → AreAllRight right self.old
-            → self.new ≡ remaining t self.old }
+        ensures { ByGroups F.Fn test.now self.old (λ t. self.new ≡ remaining t self.old) }
     {
         if self.busy == 0 {
             return;
@@ -255,8 +252,8 @@ fn busy_peers(peers: &[Peer]) -> usize
 // How many items pass the test.
 fn room_for<F: Fn(&Item) -> bool>(peers: &[Peer], test: &F) -> Result<usize, Mem>
     requires { F.IsAlwaysCallable test.now }
-    ensures { (t : Item → Bool) (right : Slot → Bool) → Computes F.Fn test.now t → GoesBy right t → AreAllRight right peers.now
-        → IfOk result (λ n. n ≡ length (released t peers.now)) }
+    ensures { ByGroups F.Fn test.now peers.now (λ t.
+        IfOk result (λ n. n ≡ length (released t peers.now))) }
 {
     let mut room: usize = 0;
     for peer in peers {
@@ -274,10 +271,11 @@ fn release_all<F: Fn(&Item) -> bool>(
 )
     requires test { F.IsAlwaysCallable test.now }
     requires empty { moved.old.items ≡ [] }
-    ensures { (t : Item → Bool) (right : Slot → Bool) → Computes F.Fn test.now t → GoesBy right t → AreAllRight right peers.old
-        → length (released t peers.old) ≤ deque_capacity moved.old
+    ensures { ByGroups F.Fn test.now peers.old (λ t.
+        length (released t peers.old) ≤ deque_capacity moved.old
         → deque_len inbox.old + length (released t peers.old) ≤ deque_capacity inbox.old
-        → (peers.new ≡ remaining t peers.old) × (inbox.new.items ≡ inbox.old.items ++ released t peers.old) }
+        → (peers.new ≡ remaining t peers.old)
+        × (inbox.new.items ≡ inbox.old.items ++ released t peers.old)) }
 {
     for peer in peers.iter_mut() {
         peer.release(test, moved, inbox);

@@ -3,12 +3,9 @@
 ghost use Rattle.std.specs.Prelude.{◌≡◌, ℕ, ◌+◌, ◌<◌, ◌≤◌, ◌^◌, Bool, false, not, nat_lt, List, [], ◌∷◌, ◌++◌, map, length, sum_by, OnOk, OnErr, IfOk};
 ghost use Rattle.std.specs.List.{list_any};
 ghost use Rattle.std.specs.VecDeque.{deque_len, deque_capacity};
-ghost use Rattle.ritas_base.specs.declared.item.Item.{Item};
-ghost use Rattle.ritas_base.specs.declared.slot.Slot.{Slot};
 ghost use Rattle.ritas_base.specs.Messages.{kind_eq};
 ghost use Rattle.ooc_buffers.specs.Lists.{HeldItem, is_same_item, passing, failing};
-ghost use Rattle.ooc_buffers.specs.Closures.{Computes};
-ghost use Rattle.ooc_buffers.specs.Groups.{GoesBy, AreRight};
+ghost use Rattle.ooc_buffers.specs.Tests.{OneByGroups};
 ghost use Rattle.ooc_buffers.specs.Moves.{NonePasses, Releases};
 ghost use Rattle.ooc_buffers.specs.Keys.{mark_of, CountsKeys};
 ghost use Rattle.ooc_buffers.specs.Spots.{held_in, AreAt, Leaves};
@@ -32,13 +29,16 @@ fn pass_on(
     index: &mut IndexMap<Key, usize>,
     inbox: &mut VecDeque<Item>,
 ) -> u32
-    ensures counts { (others : List HeldItem) → CountsKeys index.old (held_in moved.old.items ++ others) → CountsKeys index.new others }
-    ensures bytes { sum_by (λ k. k.len) (held_in moved.old.items) < 2 ^ 32 → result ≡ sum_by (λ k. k.len) (held_in moved.old.items) }
+    ensures counts { (others : List HeldItem)
+        → CountsKeys index.old (held_in moved.old.items ++ others) → CountsKeys index.new others }
+    ensures bytes { sum_by (λ k. k.len) (held_in moved.old.items) < 2 ^ 32
+        → result ≡ sum_by (λ k. k.len) (held_in moved.old.items) }
     ensures empty { moved.new.items ≡ [] }
     ensures capacity { deque_capacity moved.new ≡ deque_capacity moved.old }
     ensures room { deque_capacity inbox.new ≡ deque_capacity inbox.old }
     ensures items { deque_len inbox.old + length moved.old.items ≤ deque_capacity inbox.old
-        → (inbox.new.items ≡ inbox.old.items ++ map (λ k. k.item) (held_in moved.old.items)) × (deque_len inbox.new ≡ deque_len inbox.old + length moved.old.items) }
+        → (inbox.new.items ≡ inbox.old.items ++ map (λ k. k.item) (held_in moved.old.items))
+        × (deque_len inbox.new ≡ deque_len inbox.old + length moved.old.items) }
 {
     let mut bytes: u32 = 0;
     while let Some((_, entry)) = moved.pop_front() {
@@ -61,8 +61,8 @@ fn keep(items: &mut BTreeMap<Spot, Entry>, spot: Spot, entry: Entry) -> Result<(
     Ok(())
 }
 
-// Whether the item is among these, whose stamps are below the next one: it is looked for among those of its group, round and
-// mark.
+// Whether the item is among these, whose stamps are below the next one. It is looked for among those of its group, round
+// and mark.
 fn holds(items: &BTreeMap<Spot, Entry>, item: &Item, mark: u64, next: u64) -> bool
     ensures { AreAt next items.now.entries → mark ≡ mark_of item.now
         → result ≡ list_any (λ k. is_same_item item.now k.item) (held_in items.now.entries) }
@@ -93,8 +93,8 @@ pub(crate) struct Peer {
     bytes: u32,
     // The stamp of the next item that is held.
     next: u64,
-    // Of each group something like its first item, so that a test needs no search among the items. After items left they aren't
-    // fresh, and are made anew when they are next wanted.
+    // Of each group something like its first item, so that a test needs no search among the items. After items left they
+    // aren't fresh, and are made anew when they are next wanted.
     firsts: BTreeMap<Group, Item>,
     fresh: bool,
 }
@@ -214,8 +214,8 @@ impl Peer {
     // Whether an item may pass the test: one of the firsts does, or they aren't fresh.
     fn may_open<F: Fn(&Item) -> bool>(&self, test: &F) -> bool
         requires { F.IsAlwaysCallable test.now }
-        ensures { (t : Item → Bool) (right : Slot → Bool) → Computes F.Fn test.now t → GoesBy right t → AreRight right self.now
-            → result ≡ false → NonePasses t self.now }
+        ensures { OneByGroups F.Fn test.now self.now (λ t.
+            result ≡ false → NonePasses t self.now) }
     {
         !self.fresh || any_passes(&self.firsts, test)
     }
@@ -223,8 +223,8 @@ impl Peer {
     // How many items pass the test.
     pub(crate) fn count<F: Fn(&Item) -> bool>(&self, test: &F) -> Result<usize, Mem>
         requires { F.IsAlwaysCallable test.now }
-        ensures { (t : Item → Bool) (right : Slot → Bool) → Computes F.Fn test.now t → GoesBy right t → AreRight right self.now
-            → IfOk result (λ n. n ≡ length (passing t self.now)) }
+        ensures { OneByGroups F.Fn test.now self.now (λ t.
+            IfOk result (λ n. n ≡ length (passing t self.now))) }
     {
         if !self.may_open(test) {
             return Ok(0);
@@ -242,11 +242,12 @@ impl Peer {
         requires test { F.IsAlwaysCallable test.now }
         requires empty { moved.old.items ≡ [] }
         ensures capacity { deque_capacity inbox.new ≡ deque_capacity inbox.old }
-        ensures empty { (moved.new.items ≡ []) × (deque_capacity moved.old ≤ deque_capacity moved.new) }
-        ensures moves { (t : Item → Bool) (right : Slot → Bool) → Computes F.Fn test.now t → GoesBy right t → AreRight right self.old
-            → length (passing t self.old) ≤ deque_capacity moved.old
+        ensures empty { (moved.new.items ≡ [])
+            × (deque_capacity moved.old ≤ deque_capacity moved.new) }
+        ensures moves { OneByGroups F.Fn test.now self.old (λ t.
+            length (passing t self.old) ≤ deque_capacity moved.old
             → deque_len inbox.old + length (passing t self.old) ≤ deque_capacity inbox.old
-            → Releases t self.old self.new inbox.old inbox.new }
+            → Releases t self.old self.new inbox.old inbox.new) }
     {
         if !self.may_open(test) {
             return;
@@ -260,7 +261,7 @@ impl Peer {
     // Drops the items that pass the test.
     pub(crate) fn forget<F: Fn(&Item) -> bool>(&mut self, test: &F)
         requires { F.IsAlwaysCallable test.now }
-        ensures { (t : Item → Bool) (right : Slot → Bool) → Computes F.Fn test.now t → GoesBy right t → AreRight right self.old → self.new ≡ failing t self.old }
+        ensures { OneByGroups F.Fn test.now self.old (λ t. self.new ≡ failing t self.old) }
     {
         if !self.may_open(test) {
             return;

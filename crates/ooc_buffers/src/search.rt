@@ -2,11 +2,8 @@
 
 ghost use Rattle.std.specs.Prelude.{◌≡◌, ℕ, ◌+◌, ◌<◌, ◌≤◌, ◌^◌, Bool, ◌++◌, length, sum_by, IfSome, IfNone, IfOk};
 ghost use Rattle.std.specs.VecDeque.{deque_len, deque_capacity};
-ghost use Rattle.ritas_base.specs.declared.item.Item.{Item};
-ghost use Rattle.ritas_base.specs.declared.slot.Slot.{Slot};
 ghost use Rattle.ooc_buffers.specs.Lists.{HeldItem};
-ghost use Rattle.ooc_buffers.specs.Closures.{Computes};
-ghost use Rattle.ooc_buffers.specs.Groups.{GoesBy, AreRight};
+ghost use Rattle.ooc_buffers.specs.Tests.{SpotsByGroups};
 ghost use Rattle.ooc_buffers.specs.Keys.{CountsKeys};
 ghost use Rattle.ooc_buffers.specs.Spots.{held_in, pass, fail, rest_from, AreAt, AreApart, IsNext, Steps, Leaves, Takes};
 
@@ -25,8 +22,8 @@ pub(crate) fn next_open<F: Fn(&Item) -> bool>(
     test: &F,
 ) -> Option<Spot>
     requires { F.IsAlwaysCallable test.now }
-    ensures found { (t : Item → Bool) (right : Slot → Bool) (next : ℕ) → Computes F.Fn test.now t → GoesBy right t
-        → AreAt next items.now.entries → AreRight right (held_in items.now.entries) → IsNext t from items.now.entries result }
+    ensures found { SpotsByGroups F.Fn test.now items.now.entries (λ t.
+        IsNext t from items.now.entries result) }
     ensures steps { IfSome result (Steps from items.now.entries) }
 {
     let mut from = from;
@@ -48,10 +45,9 @@ pub(crate) fn take_next<F: Fn(&Item) -> bool>(
     requires { F.IsAlwaysCallable test.now }
     ensures leaves { IfSome result (λ e. Leaves e items.old.entries items.new.entries) }
     ensures stays { IfNone result (items.new.entries ≡ items.old.entries) }
-    ensures next { (t : Item → Bool) (right : Slot → Bool) (next : ℕ) → Computes F.Fn test.now t → GoesBy right t
-        → AreAt next items.old.entries → AreRight right (held_in items.old.entries)
-        → length (pass t items.old.entries) ≡ length (pass t (rest_from from.old items.old.entries))
-        → Takes t from.old from.new items.old.entries items.new.entries result }
+    ensures next { SpotsByGroups F.Fn test.now items.old.entries (λ t.
+        length (pass t items.old.entries) ≡ length (pass t (rest_from from.old items.old.entries))
+        → Takes t from.old from.new items.old.entries items.new.entries result) }
 {
     let spot = next_open(items, *from, test)?;
     *from = Bound::Excluded(spot);
@@ -65,8 +61,8 @@ pub(crate) fn count_open<F: Fn(&Item) -> bool>(
     test: &F,
 ) -> Result<usize, Mem>
     requires { F.IsAlwaysCallable test.now }
-    ensures { (t : Item → Bool) (right : Slot → Bool) (next : ℕ) → Computes F.Fn test.now t → GoesBy right t
-        → AreAt next items.now.entries → AreRight right (held_in items.now.entries) → IfOk result (λ n. n ≡ length (pass t items.now.entries)) }
+    ensures { SpotsByGroups F.Fn test.now items.now.entries (λ t.
+        IfOk result (λ n. n ≡ length (pass t items.now.entries))) }
 {
     let mut found: usize = 0;
     let mut from = Bound::Unbounded;
@@ -84,14 +80,15 @@ pub(crate) fn take_open<F: Fn(&Item) -> bool>(
     moved: &mut VecDeque<(Spot, Entry)>,
 )
     requires { F.IsAlwaysCallable test.now }
-    ensures same { (f : HeldItem → ℕ) → sum_by f (held_in moved.new.items) + sum_by f (held_in items.new.entries)
+    ensures same { (f : HeldItem → ℕ)
+        → sum_by f (held_in moved.new.items) + sum_by f (held_in items.new.entries)
         ≡ sum_by f (held_in moved.old.items) + sum_by f (held_in items.old.entries) }
     ensures ats { (next : ℕ) → AreAt next items.old.entries → AreAt next items.new.entries }
     ensures apart { AreApart items.old.entries → AreApart items.new.entries }
-    ensures moves { (t : Item → Bool) (right : Slot → Bool) (next : ℕ) → Computes F.Fn test.now t → GoesBy right t
-        → AreAt next items.old.entries → AreRight right (held_in items.old.entries)
-        → deque_len moved.old + length (pass t items.old.entries) ≤ deque_capacity moved.old
-        → (items.new.entries ≡ fail t items.old.entries) × (moved.new.items ≡ moved.old.items ++ pass t items.old.entries) }
+    ensures moves { SpotsByGroups F.Fn test.now items.old.entries (λ t.
+        deque_len moved.old + length (pass t items.old.entries) ≤ deque_capacity moved.old
+        → (items.new.entries ≡ fail t items.old.entries)
+        × (moved.new.items ≡ moved.old.items ++ pass t items.old.entries)) }
     ensures capacity { deque_capacity moved.old ≤ deque_capacity moved.new }
 {
     let mut from = Bound::Unbounded;
@@ -110,13 +107,15 @@ pub(crate) fn drop_open<F: Fn(&Item) -> bool>(
     test: &F,
 ) -> u32
     requires { F.IsAlwaysCallable test.now }
-    ensures counts { CountsKeys index.old (held_in items.old.entries) → CountsKeys index.new (held_in items.new.entries) }
+    ensures counts { CountsKeys index.old (held_in items.old.entries)
+        → CountsKeys index.new (held_in items.new.entries) }
     ensures bytes { sum_by (λ k. k.len) (held_in items.old.entries) < 2 ^ 32
-        → sum_by (λ k. k.len) (held_in items.new.entries) + result ≡ sum_by (λ k. k.len) (held_in items.old.entries) }
+        → sum_by (λ k. k.len) (held_in items.new.entries) + result
+        ≡ sum_by (λ k. k.len) (held_in items.old.entries) }
     ensures ats { (next : ℕ) → AreAt next items.old.entries → AreAt next items.new.entries }
     ensures apart { AreApart items.old.entries → AreApart items.new.entries }
-    ensures kept { (t : Item → Bool) (right : Slot → Bool) (next : ℕ) → Computes F.Fn test.now t → GoesBy right t
-        → AreAt next items.old.entries → AreRight right (held_in items.old.entries) → items.new.entries ≡ fail t items.old.entries }
+    ensures kept { SpotsByGroups F.Fn test.now items.old.entries (λ t.
+        items.new.entries ≡ fail t items.old.entries) }
 {
     let mut bytes: u32 = 0;
     let mut from = Bound::Unbounded;
