@@ -18,7 +18,7 @@ returns-clause-inbox g c =
     let at = is_column_at c.args.slot in
     let same = (both_same at t c.args.held.now so.columns).0 in
     subst (λ (l : List Item). OnOk c.release.result (c.release.new.inbox.items ≡ c.args.inbox.now.items ++ l)) same
-    (c.release.ensures.moved (both at t) so.grouped.right (λ x r k. search rules) (columns_by_groups c.args.slot so.grouped.right t so.grouped.opens) so.grouped.all)
+    (c.release.ensures.moved (both at t) so.grouped.right (λ x r k. search rules) (record { opens = columns_by_groups c.args.slot so.grouped.right t so.grouped.opens }) so.grouped.all)
 
 pub returns-clause-held : goal.returns-clause-held
 returns-clause-held g c =
@@ -30,4 +30,4 @@ returns-clause-held g c =
     let at = is_column_at c.args.slot in
     let same = (both_same at t c.args.held.now so.columns).1 in
     subst (λ (l : List (List HeldItem)). OnOk c.release.result (c.release.new.self ≡ l)) same
-    (c.release.ensures.kept (both at t) so.grouped.right (λ x r k. search rules) (columns_by_groups c.args.slot so.grouped.right t so.grouped.opens) so.grouped.all)
+    (c.release.ensures.kept (both at t) so.grouped.right (λ x r k. search rules) (record { opens = columns_by_groups c.args.slot so.grouped.right t so.grouped.opens }) so.grouped.all)
