@@ -10,6 +10,7 @@ use Rattle.std.proofs.lemmas.Bool.{cases_Bool, cond-true, cond-false}
 use Rattle.std.proofs.lemmas.List.{length-map, map-append}
 use Rattle.std.proofs.lemmas.List.Sums.{sum_by-append}
 use Rattle.ritas_base.specs.declared.item.Item.{Item}
+use Rattle.ritas_base.specs.declared.slot.Slot.{Slot}
 use Rattle.indexmap.specs.IndexMap.{IndexMap}
 use Rattle.ooc_buffers.specs.declared.group.Spot.{Spot}
 use Rattle.ooc_buffers.specs.declared.key.Key.{Key}
@@ -91,17 +92,17 @@ put_all_back P xs (e ∷ es) all =
     let one = put_back P e xs more.0 in
     (one.1, (one.0, more.1))
 
-rights_in : (right : Item → Bool) (xs : List Spotted) → AreRight right (held_in xs) → AllByRecursion (λ (e : Spotted). right e.1.item ≡ true) xs
+rights_in : (right : Slot → Bool) (xs : List Spotted) → AreRight right (held_in xs) → AllByRecursion (λ (e : Spotted). right e.1.item.slot ≡ true) xs
 rights_in right [] all = tt
 rights_in right (x ∷ xs) all = (all.0, rights_in right xs all.1)
 
-rights_out : (right : Item → Bool) (xs : List Spotted) → AllByRecursion (λ (e : Spotted). right e.1.item ≡ true) xs → AreRight right (held_in xs)
+rights_out : (right : Slot → Bool) (xs : List Spotted) → AllByRecursion (λ (e : Spotted). right e.1.item.slot ≡ true) xs → AreRight right (held_in xs)
 rights_out right [] all = tt
 rights_out right (x ∷ xs) all = (all.0, rights_out right xs all.1)
 
-pub order_rights : (right : Item → Bool) (xs : List Spotted) (now : List HeldItem) → in_order xs ≡ now → AreRight right now → AreRight right (held_in xs)
+pub order_rights : (right : Slot → Bool) (xs : List Spotted) (now : List HeldItem) → in_order xs ≡ now → AreRight right now → AreRight right (held_in xs)
 order_rights right xs now is rights =
-    rights_out right xs (put_all_back (λ (e : Spotted). right e.1.item ≡ true) [] xs (rights_in right (put_all [] xs) (subst (λ (l : List HeldItem). AreRight right l) (sym is) rights))).1
+    rights_out right xs (put_all_back (λ (e : Spotted). right e.1.item.slot ≡ true) [] xs (rights_in right (put_all [] xs) (subst (λ (l : List HeldItem). AreRight right l) (sym is) rights))).1
 
 -- ---- one item more
 
@@ -145,7 +146,7 @@ order_more e old new left ats =
     ∙ ap (λ (l : List Spotted). in_order l ++ e.1 ∷ []) (sym left.now)))
 
 later : (next : ℕ) (e : Spotted) → IsAt next e → IsAt (next + 1) e
-later next e at = let early = at.stamp in record { group = at.group; bround = at.bround; stamp = omega (arith, early) }
+later next e at = let early = at.stamp in record { group = at.group; bround = at.bround; mark = at.mark; stamp = omega (arith, early) }
 
 all_later : (next : ℕ) (front : List Spotted) (e : Spotted) (back : List Spotted) → IsAt (next + 1) e → AreAt next (front ++ back) → AreAt (next + 1) (front ++ e ∷ back)
 all_later next [] e [] at ats = (at, tt)

@@ -43,7 +43,7 @@ key_from : (k k' : ℕ) (s s' : Slot) (m m' : ℕ) → k ≡ k' → s ≡ s' →
 key_from k k' s s' m m' kinds slots marks =
     ap (λ (n : ℕ). make n s m) kinds ∙ (ap (λ (q : Slot). make k' q m) slots ∙ ap (λ (n : ℕ). make k' s' n) marks)
 
-key_if_same : (x y : Item) → is_same_item x y ≡ true → item_key x ≡ item_key y
+pub key_if_same : (x y : Item) → is_same_item x y ≡ true → item_key x ≡ item_key y
 key_if_same x y h =
     let first = and_parts (kind_eq x.kind y.kind) _ h in
     let second = and_parts (is_slot x.slot y.slot) (not (kind_eq x.kind Column) || bytes_eq x.value y.value) first.1 in

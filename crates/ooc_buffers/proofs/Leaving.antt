@@ -11,6 +11,7 @@ use Rattle.std.proofs.lemmas.List.Elements.{filter-append}
 use Rattle.std.proofs.lemmas.List.Sums.{sum_by-cons}
 use Rattle.ritas_base.specs.SlotOrder.{equal_from}
 use Rattle.ritas_base.specs.declared.item.Item.{Item}
+use Rattle.ritas_base.specs.declared.slot.Slot.{Slot}
 use Rattle.ooc_buffers.specs.Lists.{HeldItem}
 use Rattle.indexmap.specs.IndexMap.{IndexMap}
 use Rattle.ooc_buffers.specs.declared.key.Key.{Key}
@@ -96,11 +97,11 @@ ats_split next (x ∷ front) e back all = (all.0, ats_split next front e back al
 pub ats_left : (next : ℕ) (e : Spotted) (xs xs' : List Spotted) → Leaves e xs xs' → AreAt next xs → AreAt next xs'
 ats_left next e xs xs' left ats = rw left.now (ats_split next left.front e left.back (rw left.was at ats))
 
-rights_split : (right : Item → Bool) (front : List Spotted) (e : Spotted) (back : List Spotted) → AreRight right (held_in (front ++ e ∷ back)) → AreRight right (held_in (front ++ back))
+rights_split : (right : Slot → Bool) (front : List Spotted) (e : Spotted) (back : List Spotted) → AreRight right (held_in (front ++ e ∷ back)) → AreRight right (held_in (front ++ back))
 rights_split right [] e back all = all.1
 rights_split right (x ∷ front) e back all = (all.0, rights_split right front e back all.1)
 
-pub rights_left : (right : Item → Bool) (e : Spotted) (xs xs' : List Spotted) → Leaves e xs xs' → AreRight right (held_in xs) → AreRight right (held_in xs')
+pub rights_left : (right : Slot → Bool) (e : Spotted) (xs xs' : List Spotted) → Leaves e xs xs' → AreRight right (held_in xs) → AreRight right (held_in xs')
 rights_left right e xs xs' left rights = rw left.now (rights_split right left.front e left.back (rw left.was at rights))
 
 pub fewer_left : (e : Spotted) (xs xs' : List Spotted) → Leaves e xs xs' → length xs ≡ length xs' + 1
@@ -127,13 +128,13 @@ empty_of (x ∷ xs) none = absurd (omega (arith, none))
 -- ---- one after another
 
 -- what is left, with what passes among it behind a spot
-pub record IsLeft (t right : Item → Bool) (next : ℕ) (old : List Spotted) (from : Bound Spot) (now : List Spotted) : Type 0 where
+pub record IsLeft (t : Item → Bool) (right : Slot → Bool) (next : ℕ) (old : List Spotted) (from : Bound Spot) (now : List Spotted) : Type 0 where
   pub ats : AreAt next now
   pub rights : AreRight right (held_in now)
   pub kept : fail t now ≡ fail t old
   pub behind : length (pass t now) ≡ length (pass t (rest_from from now))
 
-pub left_more : (t right : Item → Bool) (next : ℕ) (old : List Spotted) (from from' : Bound Spot) (now now' : List Spotted) (e : Spotted)
+pub left_more : (t : Item → Bool) (right : Slot → Bool) (next : ℕ) (old : List Spotted) (from from' : Bound Spot) (now now' : List Spotted) (e : Spotted)
     → Leaves e now now' → HasLeft t from from' now now' e → IsLeft t right next old from now → IsLeft t right next old from' now'
 left_more t right next old from from' now now' e left has was = record {
   ats = ats_left next e now now' left was.ats;
@@ -142,7 +143,7 @@ left_more t right next old from from' now now' e left has was = record {
   behind = has.behind;
 }
 
-pub left_none : (t right : Item → Bool) (next : ℕ) (old : List Spotted) (from : Bound Spot) (now : List Spotted) → length (pass t (rest_from from now)) ≡ 0
+pub left_none : (t : Item → Bool) (right : Slot → Bool) (next : ℕ) (old : List Spotted) (from : Bound Spot) (now : List Spotted) → length (pass t (rest_from from now)) ≡ 0
     → IsLeft t right next old from now → now ≡ fail t old
 left_none t right next old from now none was = sym (none_pass t now (was.behind ∙ none)) ∙ was.kept
 
@@ -190,7 +191,7 @@ by_item t from k v xs xs' here left found behind =
     (found.first ∙ ap (λ (h : HeldItem). (k, h) ∷ pass t (rest_from (Excluded k) xs)) same) behind
 
 -- at first nothing has left
-pub left_first : (t right : Item → Bool) (next : ℕ) (xs : List Spotted) → AreAt next xs → AreRight right (held_in xs) → IsLeft t right next xs Unbounded xs
+pub left_first : (t : Item → Bool) (right : Slot → Bool) (next : ℕ) (xs : List Spotted) → AreAt next xs → AreRight right (held_in xs) → IsLeft t right next xs Unbounded xs
 left_first t right next xs ats rights = record {
   ats = ats;
   rights = rights;

@@ -8,3 +8,5 @@ pub mod InOrder
 pub mod Places
 pub mod Peers
 pub mod Clearing
+pub mod FirstOnes
+pub mod Ranges

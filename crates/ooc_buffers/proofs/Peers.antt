@@ -5,8 +5,9 @@ use Rattle.std.proofs.Math.ListN.{set}
 use Rattle.std.proofs.lemmas.Bool.{cases_Bool, cond-true, cond-false, lt-ltb}
 use Rattle.std.proofs.lemmas.List.Edits.{map_over_more}
 use Rattle.std.proofs.lemmas.List.Sums.{sum_by-append, sum_by-cons}
-use Rattle.std.proofs.lemmas.List.{take_more, take-append-drop, append-nil, length-map, length-take-le, get_or-append_right, get_or-drop}
+use Rattle.std.proofs.lemmas.List.{take_more, take-append-drop, take-append-le, take_all, drop_all, append-nil, length-map, length-take-le, get_or-append_right, get_or-drop}
 use Rattle.ritas_base.specs.declared.item.Item.{Item}
+use Rattle.ritas_base.specs.declared.slot.Slot.{Slot}
 use Rattle.ritas_base.specs.Quorums.{count_yes, count_no}
 use Rattle.ooc_buffers.specs.Groups.{AreRight, AreAllRight}
 use Rattle.ooc_buffers.specs.Lists.{HeldItem, passing, failing, released, remaining, busy_peers}
@@ -128,16 +129,16 @@ room_next t old i now inbox there len many cap kept within read room before =
     omega (arith, room, before.count, few, room_more t old i kept within)
 
 -- the held items of one peer are right
-right_get : (right : Item → Bool) (xs : List (List HeldItem)) (i : ℕ) (d : List HeldItem) → i < length xs → AreAllRight right xs → AreRight right (get_or xs i d)
+right_get : (right : Slot → Bool) (xs : List (List HeldItem)) (i : ℕ) (d : List HeldItem) → i < length xs → AreAllRight right xs → AreRight right (get_or xs i d)
 right_get right [] i d within all = absurd (omega arith)
 right_get right (x ∷ xs) zero d within all = all.0
 right_get right (x ∷ xs) (suc i) d within all = right_get right xs i d (omega (arith, within)) all.1
 
-pub right_at : (right : Item → Bool) (xs : List (List HeldItem)) (i : ℕ) (kept : List HeldItem) → i < length xs → kept ≡ get_or xs i kept → AreAllRight right xs
+pub right_at : (right : Slot → Bool) (xs : List (List HeldItem)) (i : ℕ) (kept : List HeldItem) → i < length xs → kept ≡ get_or xs i kept → AreAllRight right xs
     → AreRight right kept
 right_at right xs i kept within is all = subst (λ (l : List HeldItem). AreRight right l) (sym is) (right_get right xs i kept within all)
 
-pub right_next : (right : Item → Bool) (f : List HeldItem → List HeldItem) (old now : List (List HeldItem)) (i : ℕ) (kept : List HeldItem) → i < length old → kept ≡ get_or now i kept
+pub right_next : (right : Slot → Bool) (f : List HeldItem → List HeldItem) (old now : List (List HeldItem)) (i : ℕ) (kept : List HeldItem) → i < length old → kept ≡ get_or now i kept
     → now ≡ map f (take i old) ++ drop i old → AreAllRight right old → AreRight right (get_or now i kept)
 right_next right f old now i kept within is before all =
     subst (λ (l : List HeldItem). AreRight right l) (sym (next_same f old now i kept within before)) (right_get right old i kept within all)
@@ -178,3 +179,20 @@ busy_more xs i kept busy is_empty within here is before =
     by_turn : (b : Bool) → cond {A = ℕ} (not b) 0 1 ≡ cond {A = ℕ} b 1 0
     by_turn true = refl
     by_turn false = refl
+
+-- all lists were gone over
+pub all_mapped : (f : List HeldItem → List HeldItem) (n : ℕ) (old now : List (List HeldItem)) → now ≡ map f (take n old) ++ drop n old → length old ≤ n → now ≡ map f old
+all_mapped f n old now is all =
+    is
+    ∙ (ap (λ (l : List (List HeldItem)). map f (take n old) ++ l) (drop_all n old all)
+    ∙ (append-nil (map f (take n old)) ∙ ap (map f) (take_all n old all)))
+
+-- the lists of a vector that has as many as before
+pub all_kept : (f : List HeldItem → List HeldItem) (n : ℕ) (old now others : List (List HeldItem)) → now ≡ map f old → length old ≡ n → take n (now ++ others) ≡ map f old
+all_kept f n old now others is many =
+    let long = ap length is ∙ length-map old f in
+    take-append-le n now others (omega (arith, long, many)) ∙ (take_all n now (omega (arith, long, many)) ∙ is)
+
+pub no_items : (xs : List Item) → length xs ≡ 0 → xs ≡ []
+no_items [] none = refl
+no_items (x ∷ xs) none = absurd (omega (arith, none))

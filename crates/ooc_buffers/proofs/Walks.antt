@@ -20,18 +20,17 @@ use Rattle.ritas_base.specs.declared.slot.Slot.{Slot}
 use Rattle.ritas_base.specs.declared.item.Item.{Item}
 use Rattle.ritas_base.specs.SlotOrder.{slot_cmp, slots_total, exact_slots}
 use Rattle.ooc_buffers.specs.Lists.{HeldItem}
-use Rattle.ooc_buffers.specs.Groups.{group_of, AreRight}
-use Rattle.ooc_buffers.specs.Spots.{group_cmp, spot_cmp, Spotted, held_in, pass, IsAt, AreAt, rest_from, spot_behind, GoesBy}
+use Rattle.ooc_buffers.specs.Groups.{group_of, GoesBy, AreRight}
+use Rattle.ooc_buffers.specs.Spots.{group_cmp, spot_cmp, Spotted, held_in, pass, IsAt, AreAt, rest_from, spot_behind}
 use Rattle.ooc_buffers.specs.declared.group.Group.{Group}
 use Rattle.ooc_buffers.specs.declared.group.Spot.{Spot}
-use Rattle.ooc_buffers.specs.declared.group.Walk.{Walk}
-use Rattle.ooc_buffers.specs.declared.group.Walk.TheVariants.{Items, Groups}
 
 pub groups_total : IsTotalOrder group_cmp
 groups_total = then_total (on_total (λ g. g.is_column) bool_cmp_total) (on_total (λ g. g.slot) slots_total)
 
 pub spots_total : IsTotalOrder spot_cmp
-spots_total = then_total (on_total (λ s. s.group) groups_total) (then_total (on_total (λ s. s.bround) nat_cmp_total) (on_total (λ s. s.stamp) nat_cmp_total))
+spots_total = then_total (on_total (λ s. s.group) groups_total) (then_total (on_total (λ s. s.bround) nat_cmp_total)
+    (then_total (on_total (λ s. s.mark) nat_cmp_total) (on_total (λ s. s.stamp) nat_cmp_total)))
 
 exact_bool : CmpEqualImpliesEq bool_cmp
 exact_bool true true e = refl
@@ -42,18 +41,27 @@ exact_bool false true e = absurd (cc)
 abbrev as_group : Bool × Slot → Group
 as_group x = record { is_column = x.0; slot = x.1 }
 
-exact_groups : CmpEqualImpliesEq group_cmp
+pub exact_groups : CmpEqualImpliesEq group_cmp
 exact_groups a b h = ap as_group (exact_pairs bool_cmp slot_cmp exact_bool exact_slots (a.is_column, a.slot) (b.is_column, b.slot) h)
 
 abbrev two_cmp : ℕ × ℕ → ℕ × ℕ → Ordering
 two_cmp x y = ordering_then (nat_cmp x.0 y.0) (nat_cmp x.1 y.1)
 
-abbrev as_spot : Group × (ℕ × ℕ) → Spot
-as_spot x = record { group = x.0; bround = x.1.0; stamp = x.1.1 }
+abbrev three_cmp : ℕ × (ℕ × ℕ) → ℕ × (ℕ × ℕ) → Ordering
+three_cmp x y = ordering_then (nat_cmp x.0 y.0) (two_cmp x.1 y.1)
+
+abbrev as_spot : Group × (ℕ × (ℕ × ℕ)) → Spot
+as_spot x = record { group = x.0; bround = x.1.0; mark = x.1.1.0; stamp = x.1.1.1 }
+
+exact_two : CmpEqualImpliesEq two_cmp
+exact_two = exact_pairs nat_cmp nat_cmp exact_unsigned exact_unsigned
+
+exact_three : CmpEqualImpliesEq three_cmp
+exact_three = exact_pairs nat_cmp two_cmp exact_unsigned exact_two
 
 pub exact_spots : CmpEqualImpliesEq spot_cmp
 exact_spots a b h =
-    ap as_spot (exact_pairs group_cmp two_cmp exact_groups (exact_pairs nat_cmp nat_cmp exact_unsigned exact_unsigned) (a.group, (a.bround, a.stamp)) (b.group, (b.bround, b.stamp)) h)
+    ap as_spot (exact_pairs group_cmp three_cmp exact_groups exact_three (a.group, (a.bround, (a.mark, a.stamp))) (b.group, (b.bround, (b.mark, b.stamp))) h)
 
 -- ---- the order
 
@@ -86,21 +94,6 @@ further (Included a) s b q on low far =
     let less = through s b q (spot_cmp s b) refl low (less_from _ (and_parts (is_lt (spot_cmp b q)) true far).0) in
     let first = not_gt _ (and_parts (is_le (spot_cmp a s)) true on).0 in
     ap (λ r. is_le r && true) (through a s q (spot_cmp a s) refl first less)
-
-low_by : (a b c d : ℕ) (r s : Ordering) → MatchOrdering r (a < b) (a ≡ b) (b < a) → MatchOrdering s (c < d) (c ≡ d) (d < c) → a ≤ b → c ≤ d
-    → is_gt (ordering_then r s) ≡ false
-low_by a b c d Less s m n low less = refl
-low_by a b c d Equal Less m n low less = refl
-low_by a b c d Equal Equal m n low less = refl
-low_by a b c d Equal Greater m n low less = absurd (omega (arith, n, less))
-low_by a b c d Greater s m n low less = absurd (omega (arith, m, low))
-
-pub no_less : (w : Walk) (s : Spot) → s.bround ≤ 255 → s.stamp ≤ 18446744073709551615 → is_gt (spot_cmp s (spot_behind w s)) ≡ false
-no_less Items s low less = ap is_gt (tied_itself spots_total s)
-no_less Groups s low less =
-    ap (λ r. is_gt (ordering_then r (ordering_then (nat_cmp s.bround 255) (nat_cmp s.stamp 18446744073709551615)))) (tied_itself groups_total s.group)
-    ∙ low_by s.bround 255 s.stamp 18446744073709551615 (nat_cmp s.bround 255) (nat_cmp s.stamp 18446744073709551615)
-    (ranked s.bround 255 (nat_cmp s.bround 255) refl) (ranked s.stamp 18446744073709551615 (nat_cmp s.stamp 18446744073709551615) refl) low less
 
 pub itself_no_less : (s : Spot) → is_gt (spot_cmp s s) ≡ false
 itself_no_less s = ap is_gt (tied_itself spots_total s)
@@ -175,7 +168,7 @@ keyed : (k : Spot) (xs : List Spotted) → AllByRecursion (λ y. spot_cmp k y �
 keyed k [] all = tt
 keyed k (x ∷ xs) all = (all.0, keyed k xs all.1)
 
-above : (from : Bound Spot) (xs : List Spotted) (e : Spotted) (tail : List Spotted) → IsStrictlySortedBy spot_cmp (keys_of xs) → rest_from from xs ≡ e ∷ tail
+pub above : (from : Bound Spot) (xs : List Spotted) (e : Spotted) (tail : List Spotted) → IsStrictlySortedBy spot_cmp (keys_of xs) → rest_from from xs ≡ e ∷ tail
     → AllByRecursion (λ (y : Spotted). spot_cmp e.0 y.0 ≡ Less) tail
 above from xs e tail sorted is =
     let keys : filter (is_on from) (keys_of xs) ≡ e.0 ∷ keys_of tail = sym (keys_filter (is_on from) xs) ∙ ap (λ (l : List Spotted). keys_of l) is in
@@ -201,36 +194,44 @@ low_round b b' Less s m e = omega (arith, m)
 low_round b b' Equal s m e = omega (arith, m)
 low_round b b' Greater s m e = absurd (cc)
 
-by_group : (t right : Item → Bool) (next : ℕ) (e y : Spotted) (r : Ordering) → group_cmp e.0.group y.0.group ≡ r → GoesBy Groups right t → IsAt next e → IsAt next y
-    → right e.1.item ≡ true → right y.1.item ≡ true → t e.1.item ≡ false → spot_cmp e.0 y.0 ≡ Less
-    → (is_on (Excluded (spot_behind Groups e.0)) y.0 ≡ true) ⊎ (t y.1.item ≡ false)
-by_group t right next e y Less is goes at there fine other fails less =
-    inl (ap (λ r. is_lt (ordering_then r (ordering_then (nat_cmp 255 y.0.bround) (nat_cmp 18446744073709551615 y.0.stamp))) && true) is)
-by_group t right next e y Equal is goes at there fine other fails less =
-    let same : group_of e.1.item ≡ group_of y.1.item = sym at.group ∙ (exact_groups e.0.group y.0.group is ∙ there.group) in
-    let rest : ordering_then (nat_cmp e.0.bround y.0.bround) (nat_cmp e.0.stamp y.0.stamp) ≡ Less =
-    sym (ap (λ r. ordering_then r (ordering_then (nat_cmp e.0.bround y.0.bround) (nat_cmp e.0.stamp y.0.stamp))) is) ∙ less in
-    let low = low_round e.0.bround y.0.bround (nat_cmp e.0.bround y.0.bround) (nat_cmp e.0.stamp y.0.stamp) (ranked e.0.bround y.0.bround (nat_cmp e.0.bround y.0.bround) refl) rest in
-    let mine = at.bround in
-    let its = there.bround in
-    let near : e.1.item.slot.bround ≤ y.1.item.slot.bround = omega (arith, low, mine, its) in
-    inr (false_from_ne_true (t y.1.item) (λ passes. both_ways _ fails (goes e.1.item y.1.item fine other same near passes)))
-by_group t right next e y Greater is goes at there fine other fails less =
-    let high : Greater ≡ Less = sym (ap (λ r. ordering_then r (ordering_then (nat_cmp e.0.bround y.0.bround) (nat_cmp e.0.stamp y.0.stamp))) is) ∙ less in
+-- what comes behind a spot is behind its group, or of its group and no earlier round
+besides : (s q : Spot) (r : Ordering) → group_cmp s.group q.group ≡ r → spot_cmp s q ≡ Less
+    → (is_on (Excluded (spot_behind s)) q ≡ true) ⊎ ((s.group ≡ q.group) × (s.bround ≤ q.bround))
+besides s q Less is less =
+    inl (ap (λ r. is_lt (ordering_then r (ordering_then (nat_cmp 255 q.bround) (two_cmp (18446744073709551615, 18446744073709551615) (q.mark, q.stamp)))) && true) is)
+besides s q Equal is less =
+    let more = two_cmp (s.mark, s.stamp) (q.mark, q.stamp) in
+    let rest : ordering_then (nat_cmp s.bround q.bround) more ≡ Less = sym (ap (λ r. ordering_then r (ordering_then (nat_cmp s.bround q.bround) more)) is) ∙ less in
+    inr (exact_groups s.group q.group is, low_round s.bround q.bround (nat_cmp s.bround q.bround) more (ranked s.bround q.bround (nat_cmp s.bround q.bround) refl) rest)
+besides s q Greater is less =
+    let more = two_cmp (s.mark, s.stamp) (q.mark, q.stamp) in
+    let high : Greater ≡ Less = sym (ap (λ r. ordering_then r (ordering_then (nat_cmp s.bround q.bround) more)) is) ∙ less in
     absurd (cc)
 
-settled : (w : Walk) (t right : Item → Bool) (next : ℕ) (e y : Spotted) → GoesBy w right t → IsAt next e → IsAt next y
-    → right e.1.item ≡ true → right y.1.item ≡ true → t e.1.item ≡ false → spot_cmp e.0 y.0 ≡ Less
-    → (is_on (Excluded (spot_behind w e.0)) y.0 ≡ true) ⊎ (t y.1.item ≡ false)
-settled Items t right next e y goes at there fine other fails less = inl (ap (λ r. is_lt r && true) less)
-settled Groups t right next e y goes at there fine other fails less = by_group t right next e y (group_cmp e.0.group y.0.group) refl goes at there fine other fails less
+pub beside : (s q : Spot) → spot_cmp s q ≡ Less → (is_on (Excluded (spot_behind s)) q ≡ true) ⊎ ((s.group ≡ q.group) × (s.bround ≤ q.bround))
+beside s q less = besides s q (group_cmp s.group q.group) refl less
 
-all_settled : (w : Walk) (t right : Item → Bool) (next : ℕ) (e : Spotted) (ys : List Spotted) → GoesBy w right t → IsAt next e → AreAt next ys
-    → right e.1.item ≡ true → AreRight right (held_in ys) → t e.1.item ≡ false → AllByRecursion (λ (y : Spotted). spot_cmp e.0 y.0 ≡ Less) ys
-    → AllByRecursion (λ (y : Spotted). (is_on (Excluded (spot_behind w e.0)) y.0 ≡ true) ⊎ (t y.1.item ≡ false)) ys
-all_settled w t right next e [] goes at ats fine rights fails less = tt
-all_settled w t right next e (y ∷ ys) goes at ats fine rights fails less =
-    (settled w t right next e y goes at ats.0 fine rights.0 fails less.0, all_settled w t right next e ys goes at ats.1 fine rights.1 fails less.1)
+settled : (t : Item → Bool) (right : Slot → Bool) (next : ℕ) (e y : Spotted) → GoesBy right t → IsAt next e → IsAt next y
+    → right e.1.item.slot ≡ true → right y.1.item.slot ≡ true → t e.1.item ≡ false → spot_cmp e.0 y.0 ≡ Less
+    → (is_on (Excluded (spot_behind e.0)) y.0 ≡ true) ⊎ (t y.1.item ≡ false)
+settled t right next e y goes at there fine other fails less =
+    elim (beside e.0 y.0 less) [
+      | inl behind ↦ inl behind
+      | inr near ↦
+          let same : group_of e.1.item ≡ group_of y.1.item = sym at.group ∙ (near.0 ∙ there.group) in
+          let low = near.1 in
+          let mine = at.bround in
+          let its = there.bround in
+          let early : e.1.item.slot.bround ≤ y.1.item.slot.bround = omega (arith, low, mine, its) in
+          inr (false_from_ne_true (t y.1.item) (λ passes. both_ways _ fails (goes.opens e.1.item y.1.item fine other same early passes)))
+    ]
+
+all_settled : (t : Item → Bool) (right : Slot → Bool) (next : ℕ) (e : Spotted) (ys : List Spotted) → GoesBy right t → IsAt next e → AreAt next ys
+    → right e.1.item.slot ≡ true → AreRight right (held_in ys) → t e.1.item ≡ false → AllByRecursion (λ (y : Spotted). spot_cmp e.0 y.0 ≡ Less) ys
+    → AllByRecursion (λ (y : Spotted). (is_on (Excluded (spot_behind e.0)) y.0 ≡ true) ⊎ (t y.1.item ≡ false)) ys
+all_settled t right next e [] goes at ats fine rights fails less = tt
+all_settled t right next e (y ∷ ys) goes at ats fine rights fails less =
+    (settled t right next e y goes at ats.0 fine rights.0 fails less.0, all_settled t right next e ys goes at ats.1 fine rights.1 fails less.1)
 
 out_if : (t : Item → Bool) (y : Spotted) (xs ys : List Spotted) (b : Bool) → t y.1.item ≡ false → pass t xs ≡ pass t ys → pass t (cond b (y ∷ xs) xs) ≡ pass t (y ∷ ys)
 out_if t y xs ys true fails is = cond-false (t y.1.item) (y ∷ pass t xs) (pass t xs) fails ∙ (is ∙ sym (cond-false (t y.1.item) (y ∷ pass t ys) (pass t ys) fails))
@@ -251,28 +252,28 @@ all_if : (P : Spotted → Type 0) (x : Spotted) (xs : List Spotted) (b : Bool) �
 all_if P x xs true one all = (one, all)
 all_if P x xs false one all = all
 
-ats_rest : (next : ℕ) (p : Spotted → Bool) (xs : List Spotted) → AreAt next xs → AreAt next (filter p xs)
+pub ats_rest : (next : ℕ) (p : Spotted → Bool) (xs : List Spotted) → AreAt next xs → AreAt next (filter p xs)
 ats_rest next p [] all = tt
 ats_rest next p (x ∷ xs) all = all_if (IsAt next) x (filter p xs) (p x) all.0 (ats_rest next p xs all.1)
 
-right_if : (right : Item → Bool) (x : Spotted) (xs : List Spotted) (b : Bool) → right x.1.item ≡ true → AreRight right (held_in xs) → AreRight right (held_in (cond b (x ∷ xs) xs))
+right_if : (right : Slot → Bool) (x : Spotted) (xs : List Spotted) (b : Bool) → right x.1.item.slot ≡ true → AreRight right (held_in xs) → AreRight right (held_in (cond b (x ∷ xs) xs))
 right_if right x xs true one all = (one, all)
 right_if right x xs false one all = all
 
-rights_rest : (right : Item → Bool) (p : Spotted → Bool) (xs : List Spotted) → AreRight right (held_in xs) → AreRight right (held_in (filter p xs))
+rights_rest : (right : Slot → Bool) (p : Spotted → Bool) (xs : List Spotted) → AreRight right (held_in xs) → AreRight right (held_in (filter p xs))
 rights_rest right p [] all = tt
 rights_rest right p (x ∷ xs) all = right_if right x (filter p xs) (p x) all.0 (rights_rest right p xs all.1)
 
 -- where the first fails, what passes is behind where the walk goes on
-pub gone_on : (w : Walk) (t right : Item → Bool) (next : ℕ) (from : Bound Spot) (xs : List Spotted) (e : Spotted) (tail : List Spotted) → IsStrictlySortedBy spot_cmp (keys_of xs)
-    → rest_from from xs ≡ e ∷ tail → is_gt (spot_cmp e.0 (spot_behind w e.0)) ≡ false → t e.1.item ≡ false
-    → GoesBy w right t → AreAt next xs → AreRight right (held_in xs)
-    → pass t (rest_from (Excluded (spot_behind w e.0)) xs) ≡ pass t (rest_from from xs)
-gone_on w t right next from xs e tail sorted is low fails goes ats rights =
+pub gone_on : (t : Item → Bool) (right : Slot → Bool) (next : ℕ) (from : Bound Spot) (xs : List Spotted) (e : Spotted) (tail : List Spotted) → IsStrictlySortedBy spot_cmp (keys_of xs)
+    → rest_from from xs ≡ e ∷ tail → is_gt (spot_cmp e.0 (spot_behind e.0)) ≡ false → t e.1.item ≡ false
+    → GoesBy right t → AreAt next xs → AreRight right (held_in xs)
+    → pass t (rest_from (Excluded (spot_behind e.0)) xs) ≡ pass t (rest_from from xs)
+gone_on t right next from xs e tail sorted is low fails goes ats rights =
     let at : AreAt next (e ∷ tail) = subst (λ (l : List Spotted). AreAt next l) is (ats_rest next (λ y. is_on from y.0) xs ats) in
     let fine : AreRight right (held_in (e ∷ tail)) = subst (λ (l : List Spotted). AreRight right (held_in l)) is (rights_rest right (λ y. is_on from y.0) xs rights) in
-    let all = all_settled w t right next e tail goes at.0 at.1 fine.0 fine.1 fails (above from xs e tail sorted is) in
-    let b = spot_behind w e.0 in
+    let all = all_settled t right next e tail goes at.0 at.1 fine.0 fine.1 fails (above from xs e tail sorted is) in
+    let b = spot_behind e.0 in
     ap (pass t) (first_out from xs e tail b is low)
     ∙ (pass_settled t (λ y. is_on (Excluded b) y.0) tail all
     ∙ (sym (cond-false (t e.1.item) (e ∷ pass t tail) (pass t tail) fails) ∙ sym (ap (pass t) is)))

@@ -20,17 +20,21 @@ group_of item = record {
   slot = if kind_eq item.kind Column then item.slot else plain_slot item.slot;
 }
 
--- where an item passes, each of its group whose round is no later passes too; this is said of right items alone
-abbrev pub OpensByGroups : (Item → Bool) → (Item → Bool) → Type 0
-OpensByGroups right t = (x y : Item) → right x ≡ true → right y ≡ true → group_of x ≡ group_of y → x.slot.bround ≤ y.slot.bround → t y ≡ true → t x ≡ true
+-- where an item passes, each of its group whose round is no later passes too; this is said of items at right slots alone
+abbrev pub OpensByGroups : (Slot → Bool) → (Item → Bool) → Type 0
+OpensByGroups right t = (x y : Item) → right x.slot ≡ true → right y.slot ≡ true → group_of x ≡ group_of y → x.slot.bround ≤ y.slot.bround → t y ≡ true → t x ≡ true
+
+-- the test opens by groups, as a record that is passed on whole
+pub record GoesBy (right : Slot → Bool) (t : Item → Bool) : Type 0 where
+  pub opens : OpensByGroups right t
 
 -- where an item passes, each of its group does
-abbrev pub EndsByGroups : (Item → Bool) → (Item → Bool) → Type 0
-EndsByGroups right t = (x y : Item) → right x ≡ true → right y ≡ true → group_of x ≡ group_of y → t y ≡ true → t x ≡ true
+abbrev pub EndsByGroups : (Slot → Bool) → (Item → Bool) → Type 0
+EndsByGroups right t = (x y : Item) → right x.slot ≡ true → right y.slot ≡ true → group_of x ≡ group_of y → t y ≡ true → t x ≡ true
 
--- the held items are right
-abbrev pub AreRight : (Item → Bool) → List HeldItem → Type 0
-AreRight right kept = AllByRecursion (λ k. right k.item ≡ true) kept
+-- the held items are at right slots
+abbrev pub AreRight : (Slot → Bool) → List HeldItem → Type 0
+AreRight right kept = AllByRecursion (λ k. right k.item.slot ≡ true) kept
 
-abbrev pub AreAllRight : (Item → Bool) → List (List HeldItem) → Type 0
+abbrev pub AreAllRight : (Slot → Bool) → List (List HeldItem) → Type 0
 AreAllRight right held = AllByRecursion (AreRight right) held

@@ -11,6 +11,10 @@ use Rattle.ooc_buffers.specs.declared.key.Key.{Key}
 unfoldable pub value_mark : List ℕ → ℕ
 value_mark value = fold (λ h b. bit_xor h b * 1099511628211 % 2 ^ 64) 14695981039346656037 value
 
+-- of a column, the mark of its value
+abbrev pub mark_of : Item → ℕ
+mark_of item = if kind_eq item.kind Column then value_mark item.value else 0
+
 -- the kind and slot, and for a column a mark of its value
 abbrev pub item_key : Item → Key
 item_key item = record {
@@ -21,7 +25,7 @@ item_key item = record {
   bround = item.slot.bround;
   step = item.slot.step;
   origin = item.slot.origin;
-  mark = if kind_eq item.kind Column then value_mark item.value else 0;
+  mark = mark_of item;
 }
 
 abbrev pub key_eq : Key → Key → Bool

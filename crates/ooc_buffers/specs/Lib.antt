@@ -4,3 +4,5 @@ pub mod Moves
 pub mod Keys
 pub mod Groups
 pub mod Spots
+pub mod Firsts
+pub mod Tests

@@ -12,20 +12,18 @@ use Rattle.indexmap.specs.IndexMap.{IndexMap}
 use Rattle.ritas_base.specs.declared.item.Item.{Item}
 use Rattle.ritas_base.specs.SlotOrder.{slot_cmp}
 use Rattle.ooc_buffers.specs.Lists.{HeldItem}
-use Rattle.ooc_buffers.specs.Groups.{group_of, OpensByGroups}
-use Rattle.ooc_buffers.specs.Keys.{IsKeyIndexed}
+use Rattle.ooc_buffers.specs.Groups.{group_of}
+use Rattle.ooc_buffers.specs.Keys.{mark_of, IsKeyIndexed}
 use Rattle.ooc_buffers.specs.declared.group.Group.{Group}
 use Rattle.ooc_buffers.specs.declared.group.Spot.{Spot}
-use Rattle.ooc_buffers.specs.declared.group.Walk.{Walk}
-use Rattle.ooc_buffers.specs.declared.group.Walk.TheVariants.{Items, Groups}
 use Rattle.ooc_buffers.specs.declared.key.Key.{Key}
 
--- the order of spots: by group, then by round, then by stamp
+-- the order of spots: by group, then by round, then by mark, then by stamp
 abbrev pub group_cmp : Group → Group → Ordering
 group_cmp = then_cmp (on (λ g. g.is_column) bool_cmp) (on (λ g. g.slot) slot_cmp)
 
 abbrev pub spot_cmp : Spot → Spot → Ordering
-spot_cmp = then_cmp (on (λ s. s.group) group_cmp) (then_cmp (on (λ s. s.bround) nat_cmp) (on (λ s. s.stamp) nat_cmp))
+spot_cmp = then_cmp (on (λ s. s.group) group_cmp) (then_cmp (on (λ s. s.bround) nat_cmp) (then_cmp (on (λ s. s.mark) nat_cmp) (on (λ s. s.stamp) nat_cmp)))
 
 -- an item with its spot
 abbrev pub Spotted : Type 0
@@ -55,10 +53,11 @@ pass t xs = filter (λ e. t e.1.item) xs
 abbrev pub fail : (Item → Bool) → List Spotted → List Spotted
 fail t xs = filter (λ e. not (t e.1.item)) xs
 
--- an item stands where its group, its round and a stamp say
+-- an item stands where its group, its round, its mark and a stamp say
 pub record IsAt (next : ℕ) (e : Spotted) : Type 0 where
   pub group : e.0.group ≡ group_of e.1.item
   pub bround : e.0.bround ≡ e.1.item.slot.bround
+  pub mark : e.0.mark ≡ mark_of e.1.item
   pub stamp : e.0.stamp < next
 
 abbrev pub AreAt : ℕ → List Spotted → Type 0
@@ -82,15 +81,9 @@ pub record AreSpotted {S : Type 0} (index : IndexMap Key ℕ S) (bytes next : �
 abbrev pub rest_from : Bound Spot → List Spotted → List Spotted
 rest_from from xs = entries_between spot_cmp from Unbounded xs
 
--- where a walk that goes by groups goes on, when one of them fails: behind all of its group
-abbrev pub spot_behind : Walk → Spot → Spot
-spot_behind Items spot = spot
-spot_behind Groups spot = record { group = spot.group; bround = 255; stamp = 18446744073709551615 }
-
--- a walk that goes by groups needs a test that opens by groups
-abbrev pub GoesBy : Walk → (Item → Bool) → (Item → Bool) → Type 0
-GoesBy Items right t = Unit {0}
-GoesBy Groups right t = OpensByGroups right t
+-- behind all of a spot's group
+abbrev pub spot_behind : Spot → Spot
+spot_behind spot = record { group = spot.group; bround = 255; mark = 18446744073709551615; stamp = 18446744073709551615 }
 
 -- there is an item at the spot, which is from there on
 pub record Steps (from : Bound Spot) (xs : List Spotted) (spot : Spot) : Type 0 where

@@ -15,19 +15,14 @@ pub(crate) struct Group {
     slot: Slot,
 }
 
-/// Where an item is kept: by its group, its round, and a stamp that grows with each item that is held.
+/// Where an item is kept: by its group, its round, the mark of its value where it is a column, and a stamp that grows with
+/// each item that is held.
 #[derive(Clone, Copy, PartialEq, Eq, PartialOrd, Ord)]
 pub(crate) struct Spot {
     pub(crate) group: Group,
     pub(crate) bround: u8,
+    pub(crate) mark: u64,
     pub(crate) stamp: u64,
-}
-
-/// Which items are asked: each, or of each group the first ones, up to one that fails.
-#[derive(Clone, Copy)]
-pub(crate) enum Walk {
-    Items,
-    Groups,
 }
 
 // The slot that stands for those of one class, number and attempt.
@@ -59,19 +54,17 @@ impl Group {
     }
 }
 
-impl Walk {
-    // Behind which spot it goes on, where the item at this one fails.
-    pub(crate) fn behind(self, spot: Spot) -> Spot
-        ensures spot { result ≡ spot_behind self spot }
-        ensures later { is_gt (spot_cmp spot result) ≡ false }
+impl Spot {
+    // Behind all of its group.
+    pub(crate) fn behind(self) -> Spot
+        ensures spot { result ≡ spot_behind self }
+        ensures later { is_gt (spot_cmp self result) ≡ false }
     {
-        match self {
-            Walk::Items => spot,
-            Walk::Groups => Spot {
-                bround: u8::MAX,
-                stamp: u64::MAX,
-                ..spot
-            },
+        Spot {
+            bround: u8::MAX,
+            mark: u64::MAX,
+            stamp: u64::MAX,
+            ..self
         }
     }
 }

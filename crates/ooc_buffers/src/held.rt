@@ -1,15 +1,13 @@
-//! The items that are held for all peers, each with a limit of its own: they are released by peer, in the order in which they came.
+//! The items that are held for all peers, each with a limit of its own: they are released by peer, in the order in which they
+//! came.
 
 ghost use Rattle.std.specs.Prelude.{◌≡◌, ℕ, ◌+◌, ◌<◌, ◌≤◌, ◌↔◌, Bool, [], ◌++◌, length, replicate, Err, OnOk, OnErr, IfOk, false};
 ghost use Rattle.std.specs.VecDeque.{deque_len, deque_capacity};
-ghost use Rattle.ritas_base.specs.declared.item.Item.{Item};
 ghost use Rattle.ooc_buffers.specs.Lists.{is_held, held_bytes, most_held_bytes, bytes_if_full, with_item_held, released, remaining, busy_peers};
-ghost use Rattle.ooc_buffers.specs.Closures.{Computes};
-ghost use Rattle.ooc_buffers.specs.Groups.{OpensByGroups, EndsByGroups, AreAllRight};
-ghost use Rattle.ooc_buffers.specs.Spots.{GoesBy};
+ghost use Rattle.ooc_buffers.specs.Tests.{ByGroups, ByWholeGroups};
 
 use crate::entry::Entry;
-use crate::group::{Spot, Walk};
+use crate::group::Spot;
 use crate::peer::Peer;
 use ritas_base::{Item, Mem};
 use std::alloc::Global;
@@ -89,11 +87,12 @@ impl Held {
     /// The length is in bytes, and is counted until the item leaves. `HeldFull` is answered exactly where the sender's
     /// held bytes, which it carries, and the length are more than `most_bytes` (1,048,576); otherwise the one error is `Mem`. All
     /// stays as it was after an error.
-    pub fn hold(&mut self, _alloc: Global, item: Item, len: u32) -> Result<(), HoldFault>
+    pub fn hold(&mut self, alloc: Global, item: Item, len: u32) -> Result<(), HoldFault>
         requires is_new { is_held self.old item ≡ false }
         requires sender { item.from < length self.old }
         ensures ok { OnOk result (self.new ≡ with_item_held self.old item len) }
-        ensures full { (b : ℕ) → (result ≡ Err (HoldFault.HeldFull b)) ↔ ((b ≡ held_bytes self.old item.from) × (most_held_bytes < b + len)) }
+        ensures full { (b : ℕ) → (result ≡ Err (HoldFault.HeldFull b))
+            ↔ ((b ≡ held_bytes self.old item.from) × (most_held_bytes < b + len)) }
         ensures err { OnErr result (self.new ≡ self.old) }
     {
         let peer = &mut self.peers[item.from as usize];
@@ -101,7 +100,7 @@ impl Held {
             return Err(HoldFault::HeldFull(held));
         }
         let was_empty = peer.is_empty();
-        peer.add(item, len)?;
+        peer.add(alloc, item, len)?;
         if was_empty {
             self.busy += 1;
         }
@@ -145,7 +144,10 @@ impl Held {
     /// Moves each item for which `is_open` says yes to the back of the inbox, by peer ascending and for each peer in the
     /// order in which they were held. The others stay, in their order.
     ///
-    /// The one error is want of memory, after which nothing has moved.
+    /// The test goes by groups: where an item passes, those of its group pass whose round is no later. The groups are those
+    /// of `group_of`, and `right` says of the items at which slots the test goes by groups: those that are held must be
+    /// so. The test is first asked something like an item of each group's least round, with an empty value. Only where it
+    /// passes one it is asked the items. The one error is want of memory, after which nothing has moved.
     pub fn release<F: Fn(&Item) -> bool>(
         &mut self,
         alloc: Global,
@@ -153,95 +155,84 @@ impl Held {
         inbox: &mut VecDeque<Item>,
     ) -> Result<(), Mem>
         requires { F.IsAlwaysCallable is_open }
-        ensures moved { (t : Item → Bool) → Computes F.Fn is_open t → OnOk result (inbox.new.items ≡ inbox.old.items ++ released t self.old) }
-        ensures kept { (t : Item → Bool) → Computes F.Fn is_open t → OnOk result (self.new ≡ remaining t self.old) }
+        ensures moved { ByGroups F.Fn is_open self.old (λ t.
+            OnOk result (inbox.new.items ≡ inbox.old.items ++ released t self.old)) }
+        ensures kept { ByGroups F.Fn is_open self.old (λ t.
+            OnOk result (self.new ≡ remaining t self.old)) }
         ensures err { OnErr result ((inbox.new.items ≡ inbox.old.items) × (self.new ≡ self.old)) }
     {
-        self.open(alloc, Walk::Items, &is_open, inbox)
+        self.refresh(alloc);
+        self.open(alloc, &is_open, inbox)
     }
 
-    /// Does what `release` does, for a test that goes by groups: where an item passes, those of its group pass whose round
-    /// is no later. Of each group it asks the items of the first rounds, up to one that fails, and passes the others by.
-    ///
-    /// The groups are those of `group_of`, and `right` says of which items the test goes by groups: those that are held
-    /// must be so. The one error is want of memory, after which nothing has moved.
-    pub fn release_groups<F: Fn(&Item) -> bool>(
-        &mut self,
-        alloc: Global,
-        is_open: F,
-        inbox: &mut VecDeque<Item>,
-    ) -> Result<(), Mem>
-        requires { F.IsAlwaysCallable is_open }
-        ensures moved { (t right : Item → Bool) → Computes F.Fn is_open t → OpensByGroups right t → AreAllRight right self.old
-            → OnOk result (inbox.new.items ≡ inbox.old.items ++ released t self.old) }
-        ensures kept { (t right : Item → Bool) → Computes F.Fn is_open t → OpensByGroups right t → AreAllRight right self.old
-            → OnOk result (self.new ≡ remaining t self.old) }
-        ensures err { OnErr result ((inbox.new.items ≡ inbox.old.items) × (self.new ≡ self.old)) }
+    // Makes the firsts of each peer anew, where they aren't fresh.
+    fn refresh(&mut self, alloc: Global)
+        ensures { self.new ≡ self.old }
     {
-        self.open(alloc, Walk::Groups, &is_open, inbox)
+        refresh_all(alloc, self.peers.as_mut_slice());
     }
 
     // Moves the items that pass the test to the back of the inbox.
     fn open<F: Fn(&Item) -> bool>(
         &mut self,
         alloc: Global,
-        walk: Walk,
         test: &F,
         inbox: &mut VecDeque<Item>,
     ) -> Result<(), Mem>
         requires { F.IsAlwaysCallable test.now }
-        ensures moved { (t right : Item → Bool) → Computes F.Fn test.now t → GoesBy walk right t → AreAllRight right self.old
-            → OnOk result (inbox.new.items ≡ inbox.old.items ++ released t self.old) }
-        ensures kept { (t right : Item → Bool) → Computes F.Fn test.now t → GoesBy walk right t → AreAllRight right self.old
-            → OnOk result (self.new ≡ remaining t self.old) }
+        ensures moved { ByGroups F.Fn test.now self.old (λ t.
+            OnOk result (inbox.new.items ≡ inbox.old.items ++ released t self.old)) }
+        ensures kept { ByGroups F.Fn test.now self.old (λ t.
+            OnOk result (self.new ≡ remaining t self.old)) }
         ensures err { OnErr result ((inbox.new.items ≡ inbox.old.items) × (self.new ≡ self.old)) }
     {
         if self.busy == 0 {
             return Ok(());
         }
-        let room = room_for(self.peers.as_slice(), walk, test)?;
+        let room = room_for(self.peers.as_slice(), test)?;
         if room == 0 {
             return Ok(());
         }
         inbox.reserve(room)?;
         let mut moved = VecDeque::with_capacity(alloc, room)?;
-        release_all(self.peers.as_mut_slice(), walk, test, &mut moved, inbox);
+        release_all(self.peers.as_mut_slice(), test, &mut moved, inbox);
         self.busy = busy_peers(self.peers.as_slice());
         Ok(())
     }
 
     /// Drops each item for which `is_past` says yes. The others stay, in their order.
+    ///
+    /// The test ends whole groups: where an item passes, all of its group do. The groups are those of `group_of`, and
+    /// `right` says of the items at which slots the test goes by groups: those that are held must be so. It is asked as that
+    /// of `release` is.
     pub fn forget<F: Fn(&Item) -> bool>(&mut self, is_past: F)
         requires { F.IsAlwaysCallable is_past }
-        ensures { (t : Item → Bool) → Computes F.Fn is_past t → self.new ≡ remaining t self.old }
+        ensures { ByWholeGroups F.Fn is_past self.old (λ t. self.new ≡ remaining t self.old) }
     {
-        self.clear(Walk::Items, &is_past);
+        self.clear(&is_past);
     }
 
-    /// Does what `forget` does, for a test that ends whole groups: where an item passes, all of its group do. Of each group
-    /// it asks the first item, and passes the others by where this one fails.
-    ///
-    /// The groups are those of `group_of`, and `right` says of which items the test goes by groups: those that are held
-    /// must be so.
-    pub fn forget_groups<F: Fn(&Item) -> bool>(&mut self, is_past: F)
-        requires { F.IsAlwaysCallable is_past }
-        ensures { (t right : Item → Bool) → Computes F.Fn is_past t → EndsByGroups right t → AreAllRight right self.old → self.new ≡ remaining t self.old }
-    {
-        self.clear(Walk::Groups, &is_past);
-    }
-
-    // Drops the items that pass the test.
-    fn clear<F: Fn(&Item) -> bool>(&mut self, walk: Walk, test: &F)
+    // Drops the items that pass a test that goes by groups.
+    fn clear<F: Fn(&Item) -> bool>(&mut self, test: &F)
         requires { F.IsAlwaysCallable test.now }
-        ensures { (t right : Item → Bool) → Computes F.Fn test.now t → GoesBy walk right t → AreAllRight right self.old → self.new ≡ remaining t self.old }
+        ensures { ByGroups F.Fn test.now self.old (λ t. self.new ≡ remaining t self.old) }
     {
         if self.busy == 0 {
             return;
         }
         for peer in self.peers.iter_mut() {
-            peer.forget(walk, test);
+            peer.forget(test);
         }
         self.busy = busy_peers(self.peers.as_slice());
+    }
+}
+
+// Makes the firsts of each peer anew, where they aren't fresh.
+fn refresh_all(alloc: Global, peers: &mut [Peer])
+    ensures { peers.new ≡ peers.old }
+{
+    for peer in peers.iter_mut() {
+        peer.refresh(alloc);
     }
 }
 
@@ -259,14 +250,14 @@ fn busy_peers(peers: &[Peer]) -> usize
 }
 
 // How many items pass the test.
-fn room_for<F: Fn(&Item) -> bool>(peers: &[Peer], walk: Walk, test: &F) -> Result<usize, Mem>
+fn room_for<F: Fn(&Item) -> bool>(peers: &[Peer], test: &F) -> Result<usize, Mem>
     requires { F.IsAlwaysCallable test.now }
-    ensures { (t right : Item → Bool) → Computes F.Fn test.now t → GoesBy walk right t → AreAllRight right peers.now
-        → IfOk result (λ n. n ≡ length (released t peers.now)) }
+    ensures { ByGroups F.Fn test.now peers.now (λ t.
+        IfOk result (λ n. n ≡ length (released t peers.now))) }
 {
     let mut room: usize = 0;
     for peer in peers {
-        room = room.checked_add(peer.count(walk, test)?).ok_or(Mem)?;
+        room = room.checked_add(peer.count(test)?).ok_or(Mem)?;
     }
     Ok(room)
 }
@@ -274,19 +265,19 @@ fn room_for<F: Fn(&Item) -> bool>(peers: &[Peer], walk: Walk, test: &F) -> Resul
 // Moves the items that pass the test to the inbox, by way of a list that is empty. Both have room for them.
 fn release_all<F: Fn(&Item) -> bool>(
     peers: &mut [Peer],
-    walk: Walk,
     test: &F,
     moved: &mut VecDeque<(Spot, Entry)>,
     inbox: &mut VecDeque<Item>,
 )
     requires test { F.IsAlwaysCallable test.now }
     requires empty { moved.old.items ≡ [] }
-    ensures { (t right : Item → Bool) → Computes F.Fn test.now t → GoesBy walk right t → AreAllRight right peers.old
-        → length (released t peers.old) ≤ deque_capacity moved.old
+    ensures { ByGroups F.Fn test.now peers.old (λ t.
+        length (released t peers.old) ≤ deque_capacity moved.old
         → deque_len inbox.old + length (released t peers.old) ≤ deque_capacity inbox.old
-        → (peers.new ≡ remaining t peers.old) × (inbox.new.items ≡ inbox.old.items ++ released t peers.old) }
+        → (peers.new ≡ remaining t peers.old)
+        × (inbox.new.items ≡ inbox.old.items ++ released t peers.old)) }
 {
     for peer in peers.iter_mut() {
-        peer.release(walk, test, moved, inbox);
+        peer.release(test, moved, inbox);
     }
 }

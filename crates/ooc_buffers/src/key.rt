@@ -18,7 +18,7 @@ pub(crate) struct Key {
     bround: u8,
     step: u8,
     origin: u8,
-    mark: u64,
+    pub(crate) mark: u64,
 }
 
 // A kind's place in the order.

@@ -94,12 +94,12 @@ module _ {S E C T : Type 0} (m : Meaning S E C T) (well : MeansWell m) where
       }
 
   -- and what it changes goes by its kind
-  only_by : (old : Layers S E C T) (item : Item) (b : Bool) → is_of_form 2 item.kind ≡ b → DeliversNone m old item → ChangesOnly m old item (cond b changes.Columns changes.Cast)
-  only_by old item true is quiet = quiet
+  only_by : (old : Layers S E C T) (item : Item) (b : Bool) → is_of_form 2 item.kind ≡ b → DeliversNone m old item → ChangesOnly m old item (cond b (changes.Columns item.slot) changes.Cast)
+  only_by old item true is quiet = (quiet, refl)
   only_by old item false is quiet = (quiet, is)
 
   pub quiet_so : (old : Layers S E C T) (casts : SlotMap (Cast E)) (item : Item) (before after_it : List Msg) (taken : Taken) → taken ≡ Took None →
-      TookSo old casts item before after_it taken → (change : Change) → change ≡ quiet_change item.kind → TakesSo m old (record old { casts = casts }) item before after_it change
+      TookSo old casts item before after_it taken → (change : Change) → change ≡ quiet_change item → TakesSo m old (record old { casts = casts }) item before after_it change
   quiet_so old casts item before after_it taken is took change by = record {
     takes = quiet_item old casts item before after_it taken is took;
     only = subst (λ (x : Change). ChangesOnly m old item x) (sym by) (only_by old item (is_of_form 2 item.kind) refl (delivers_none old casts item before after_it taken is took));

@@ -4,7 +4,7 @@ use Rattle.std.specs.Prelude.{nat_le}
 use Rattle.std.specs.Option.{is_some}
 use Rattle.std.specs.FinMap.{get}
 use Rattle.std.specs.List.{AllByRecursion}
-use Rattle.std.proofs.lemmas.Bool.{cases_Bool, cond-false, and_parts, and_from, eqb-true, lt-ltb, both_ways}
+use Rattle.std.proofs.lemmas.Bool.{cases_Bool, cond-false, and_parts, and_from, eqb-true, lt-ltb, false_from_ne_true, both_ways}
 use Rattle.ritas_base.specs.declared.slot.Slot.{Slot}
 use Rattle.ritas_base.specs.declared.slot.SlotFault.{SlotFault}
 use Rattle.ritas_base.specs.declared.item.Item.{Item}
@@ -38,7 +38,7 @@ use Rattle.ritas_core.specs.Checks.{is_item_past, is_item_ahead, is_open, IsGood
 use Rattle.ritas_core.specs.Stands.{Meaning, rules_of, LayersStand, AreGoodKept, AreGoodLists, Waits, Each, AreWaiting}
 use Rattle.ritas_core.specs.LayerCalls.{CanTakeItem, ChangesOnly, is_past_in, is_open_in}
 use Rattle.ritas_core.specs.Laws.{LayerLaws}
-use Rattle.ritas_core.specs.Waiting.{NonePasses, AreGrouped, AreEnding, MayLeave}
+use Rattle.ritas_core.specs.Waiting.{NonePasses, is_column_at, AreGrouped, AreColumns, AreEnding, MayLeave}
 use Rattle.ritas_core.proofs.TestLaws.{left_false, right_false}
 use Rattle.ritas_core.proofs.Goodness.{good_remaining}
 use Rattle.ritas_core.proofs.HeldSteps.{past_same, open_same}
@@ -122,6 +122,46 @@ none_passes t (kept ∷ held) all =
       same = ap₂ (λ (l : List HeldItem) (ls : List (List HeldItem)). l ∷ ls) first.1 rest.same;
     }
 
+-- ---- two tests agree
+
+kept_agree : (t u : Item → Bool) (ks : List HeldItem) → AllByRecursion (λ k. t k.item ≡ u k.item) ks → (passing t ks ≡ passing u ks) × (failing t ks ≡ failing u ks)
+kept_agree t u [] all = (refl, refl)
+kept_agree t u (k ∷ ks) all =
+    let rest = kept_agree t u ks all.1 in (
+      ap₂ (λ (b : Bool) (l : List HeldItem). cond b (k ∷ l) l) all.0 rest.0,
+      ap₂ (λ (b : Bool) (l : List HeldItem). cond (not b) (k ∷ l) l) all.0 rest.1,
+    )
+
+each_agree : (t u : Item → Bool) (held : List (List HeldItem)) → Each (λ x. t x ≡ u x) held → (released t held ≡ released u held) × (remaining t held ≡ remaining u held)
+each_agree t u [] all = (refl, refl)
+each_agree t u (kept ∷ held) all =
+    let first = kept_agree t u kept all.0 in
+    let rest = each_agree t u held all.1 in (
+      ap₂ (λ (l : List HeldItem) (ls : List Item). map (λ k. k.item) l ++ ls) first.0 rest.0,
+      ap₂ (λ (l : List HeldItem) (ls : List (List HeldItem)). l ∷ ls) first.1 rest.1,
+    )
+
+-- a test that asks first what each that passes has
+abbrev pub both : (Item → Bool) → (Item → Bool) → Item → Bool
+both first t x = first x && t x
+
+has_both : (a b : Bool) → (b ≡ true → a ≡ true) → (a && b) ≡ b
+has_both true b from = refl
+has_both false true from = from refl
+has_both false false from = refl
+
+kept_both : (first t : Item → Bool) (ks : List HeldItem) → AllByRecursion (λ k. t k.item ≡ true → first k.item ≡ true) ks → AllByRecursion (λ k. both first t k.item ≡ t k.item) ks
+kept_both first t [] all = tt
+kept_both first t (k ∷ ks) all = (has_both (first k.item) (t k.item) all.0, kept_both first t ks all.1)
+
+each_both : (first t : Item → Bool) (held : List (List HeldItem)) → Each (λ x. t x ≡ true → first x ≡ true) held → Each (λ x. both first t x ≡ t x) held
+each_both first t [] all = tt
+each_both first t (kept ∷ held) all = (kept_both first t kept all.0, each_both first t held all.1)
+
+pub both_same : (first t : Item → Bool) (held : List (List HeldItem)) → Each (λ x. t x ≡ true → first x ≡ true) held
+    → (released (both first t) held ≡ released t held) × (remaining (both first t) held ≡ remaining t held)
+both_same first t held all = each_agree (both first t) t held (each_both first t held all)
+
 -- ---- an item that is taken quietly
 
 column_form : (form : ℕ) (k : Kind) → kind_eq k kinds.Column ≡ true → is_of_form form k ≡ true → form ≡ 2
@@ -143,33 +183,39 @@ module _ (r : Rules) (laws : LayerLaws r) (p : Parts) (item x : Item) (good : Is
       subst (λ (s : Slot). is_of_form (r.casts.at_slot s).form item.kind ≡ true) same (kind_fits r laws item good.in_grammar) in
       both_ways (is_of_form 2 item.kind) other (subst (λ (n : ℕ). is_of_form n item.kind ≡ true) form mine)
 
-  -- no other item is ready by it
-  ready_as_before : is_of_form 2 item.kind ≡ false →
+  -- only columns of its slot become ready by it
+  ready_elsewhere : is_column_at item.slot x ≡ false →
       (r.casts.at_slot x.slot).ready (place_at r.casts x.slot) r.casts.tags (called p.calls item.slot (Take item) x.slot) x
       ≡ (r.casts.at_slot x.slot).ready (place_at r.casts x.slot) r.casts.tags (p.calls x.slot) x
-  ready_as_before other =
+  ready_elsewhere elsewhere =
       let here = r.casts.at_slot x.slot in
       let at = place_at r.casts x.slot in
       let fits = kind_fits r laws x held.in_grammar in
       elim (cases_Bool (is_slot item.slot x.slot)) [
-        | inl same ↦ elim (cases_Bool (kind_eq x.kind kinds.Column)) [
-          | inl column ↦ absurd (no_column other (same_slot item.slot x.slot same) column)
-          | inr plain ↦
-              ready_always here (laws.casts x.slot) at r.casts.tags (called p.calls item.slot (Take item) x.slot) x fits plain
-              ∙ sym (ready_always here (laws.casts x.slot) at r.casts.tags (p.calls x.slot) x fits plain)
-        ]
+        | inl same ↦
+            let plain : kind_eq x.kind kinds.Column ≡ false =
+            false_from_ne_true (kind_eq x.kind kinds.Column) (λ column. both_ways (is_column_at item.slot x) elsewhere (and_from (kind_eq x.kind kinds.Column) _ column same)) in
+            ready_always here (laws.casts x.slot) at r.casts.tags (called p.calls item.slot (Take item) x.slot) x fits plain
+            ∙ sym (ready_always here (laws.casts x.slot) at r.casts.tags (p.calls x.slot) x fits plain)
         | inr apart ↦ ap (λ (h : List Call). here.ready at r.casts.tags h x) (cond-false (is_slot item.slot x.slot) (Take item ∷ p.calls x.slot) (p.calls x.slot) apart)
       ]
 
+  pub open_elsewhere : is_column_at item.slot x ≡ false → is_open r (taken_at item p) x ≡ is_open r p x
+  open_elsewhere elsewhere =
+      ap (λ (b : Bool). not (is_item_past r p x) && (not (is_item_ahead r p x) && (r.service.opens (seat_of r) p.words x.slot && b))) (ready_elsewhere elsewhere)
+
+  -- and none where its slot has no columns
   pub open_as_before : is_of_form 2 item.kind ≡ false → is_open r (taken_at item p) x ≡ is_open r p x
   open_as_before other =
-      ap (λ (b : Bool). not (is_item_past r p x) && (not (is_item_ahead r p x) && (r.service.opens (seat_of r) p.words x.slot && b))) (ready_as_before other)
+      open_elsewhere (false_from_ne_true (is_column_at item.slot x) (λ at.
+      let parts = and_parts (kind_eq x.kind kinds.Column) (is_slot item.slot x.slot) at in
+      no_column other (same_slot item.slot x.slot parts.1) parts.0))
 
 -- ---- groups
 
 -- a slot in the grammar
-abbrev pub is_right : Numbers → Mode → Item → Bool
-is_right n mode x = not (is_some (slot_fault n mode x.slot))
+abbrev pub is_right : Numbers → Mode → Slot → Bool
+is_right n mode s = not (is_some (slot_fault n mode s))
 
 right_slot : (o : Option SlotFault) → not (is_some o) ≡ true → o ≡ None
 right_slot None right = refl
@@ -188,6 +234,17 @@ column_is kinds.Value is = absurd (cc)
 -- of one group are columns of one slot, or other items whose slots are so far the same
 slot_by : (x : Item) (b : Bool) → kind_eq x.kind kinds.Column ≡ b → (group_of x).slot ≡ cond b x.slot (plain_slot x.slot)
 slot_by x b is = ap (λ (c : Bool). cond c x.slot (plain_slot x.slot)) is
+
+-- where a test opens by groups, so it does of the columns of one slot
+pub columns_by_groups : (slot : Slot) (right : Slot → Bool) (t : Item → Bool) → OpensByGroups right t → OpensByGroups right (both (is_column_at slot) t)
+columns_by_groups slot right t opens x y fine other same low passes =
+    let its = and_parts (is_column_at slot y) (t y) passes in
+    let at = and_parts (kind_eq y.kind kinds.Column) (is_slot slot y.slot) its.0 in
+    let column : kind_eq x.kind kinds.Column ≡ true = ap (λ (g : Group). g.is_column) same ∙ at.0 in
+    let slots : x.slot ≡ y.slot = sym (slot_by x true column) ∙ (ap (λ (g : Group). g.slot) same ∙ slot_by y true at.0) in
+    and_from (is_column_at slot x) (t x)
+    (and_from (kind_eq x.kind kinds.Column) (is_slot slot x.slot) column (ap (is_slot slot) slots ∙ at.1))
+    (opens x y fine other same low its.1)
 
 by_origin : (g : ℕ → Bool) (k b : Bool) (o o' : ℕ) → cond b o 0 ≡ cond b o' 0 → cond b (g o) k ≡ cond b (g o') k
 by_origin g k true o o' e = ap g e
@@ -213,13 +270,13 @@ by_route other by_kind routes.Other = by_kind
 
 module _ {S E C T : Type 0} (m : Meaning S E C T) (down : (seat : Seat) (w : List Word) → OpensDown (m.service.opens seat w)) (by_kind : ReadyByKind m.cast)
     (layers : Layers S E C T) (p : Parts) where
-  abbrev pub right : Item → Bool
+  abbrev pub right : Slot → Bool
   right = is_right layers.params layers.mode
 
-  in_grammar : (x : Item) → right x ≡ true → slot_fault layers.params layers.mode x.slot ≡ None
+  in_grammar : (x : Item) → right x.slot ≡ true → slot_fault layers.params layers.mode x.slot ≡ None
   in_grammar x fine = right_slot (slot_fault layers.params layers.mode x.slot) fine
 
-  own_origin : (x : Item) → right x ≡ true → nat_lt x.slot.origin layers.params.n ≡ true
+  own_origin : (x : Item) → right x.slot ≡ true → nat_lt x.slot.origin layers.params.n ≡ true
   own_origin x fine = lt-ltb x.slot.origin layers.params.n (slot_origin layers.params layers.mode x.slot (in_grammar x fine))
 
   -- whether it is open, by its slot and by whether its broadcast can take it
@@ -245,7 +302,7 @@ module _ {S E C T : Type 0} (m : Meaning S E C T) (down : (seat : Seat) (w : Lis
       ap₂ by_slot same ready
 
   -- and others where none is later
-  plain_opens : (x y : Item) → right x ≡ true → kind_eq x.kind kinds.Column ≡ false → plain_slot x.slot ≡ plain_slot y.slot → x.slot.bround ≤ y.slot.bround
+  plain_opens : (x y : Item) → right x.slot ≡ true → kind_eq x.kind kinds.Column ≡ false → plain_slot x.slot ≡ plain_slot y.slot → x.slot.bround ≤ y.slot.bround
       → is_open_in m layers p y ≡ true → is_open_in m layers p x ≡ true
   plain_opens x y fine plain same low opened =
       let r = rules_of m layers in
@@ -301,7 +358,7 @@ module _ {S E C T : Type 0} (m : Meaning S E C T) (down : (seat : Seat) (w : Lis
 
   all_right : (held : List (List HeldItem)) → AreGoodLists (rules_of m layers) held → AreAllRight right held
   all_right held good =
-      each_good (rules_of m layers) (IsGood (rules_of m layers)) (λ x. right x ≡ true) (λ x one _. ap (λ (o : Option SlotFault). not (is_some o)) one.in_grammar.slot) held good
+      each_good (rules_of m layers) (IsGood (rules_of m layers)) (λ x. right x.slot ≡ true) (λ x one _. ap (λ (o : Option SlotFault). not (is_some o)) one.in_grammar.slot) held good
       (each_is_good (rules_of m layers) held good)
 
   pub grouped : (held : List (List HeldItem)) → AreGoodLists (rules_of m layers) held → AreGrouped (is_open_in m layers p) held
@@ -324,15 +381,15 @@ DeliversNoneAt r p item = item_delivers r item p ≡ None
 -- an entry changed only so much
 abbrev pub HeldChange : Change → Entry → Rules → Parts → Type 0
 HeldChange changes.Service e r p = Unit {0}
-HeldChange changes.Columns (Took item) r p = DeliversNoneAt r p item
-HeldChange changes.Columns (Given v) r p = ⊥
+HeldChange (changes.Columns slot) (Took item) r p = DeliversNoneAt r p item × (slot ≡ item.slot)
+HeldChange (changes.Columns slot) (Given v) r p = ⊥
 HeldChange changes.Cast (Took item) r p = DeliversNoneAt r p item × (is_of_form 2 item.kind ≡ false)
 HeldChange changes.Cast (Given v) r p = ⊥
 
 pub held_by : {S E C T : Type 0} (m : Meaning S E C T) (layers : Layers S E C T) (item : Item) (change : Change) (p : Parts) → CanTakeItem m layers item p
     → ChangesOnly m layers item change → HeldChange change (Took item) (rules_of m layers) p
 held_by m layers item changes.Service p can only = tt
-held_by m layers item changes.Columns p can only = only p can
+held_by m layers item (changes.Columns slot) p can only = (only.0 p can, only.1)
 held_by m layers item changes.Cast p can only = (only.0 p can, only.1)
 
 left_if : (P : Item → Type 0) (k : HeldItem) (ks : List HeldItem) (b : Bool) → P k.item → AllByRecursion (λ k. P k.item) ks → AllByRecursion (λ k. P k.item) (cond (not b) (k ∷ ks) ks)
@@ -383,6 +440,24 @@ module _ {S E C T : Type 0} (m : Meaning S E C T) (opening : OpensWell m) (layer
         ∙ (ap (λ (q : Parts). is_open r q x) (quiet_parts item quiet)
         ∙ (open_as_before r laws (parts r h) item x fine one other ∙ left_false (is_open r (parts r h) x) (is_item_past r (parts r h) x) waits))) held good waiting)
 
+    columns_only : (item : Item) (slot : Slot) → IsGood (rules_of m layers) item → DeliversNoneAt (rules_of m layers) (parts (rules_of m layers) h) item → slot ≡ item.slot →
+        LayersStand m layers (parts (rules_of m layers) (Took item ∷ h)) →
+        Each (λ x. is_open_in m layers (parts (rules_of m layers) (Took item ∷ h)) x ≡ true → is_column_at slot x ≡ true) held
+    columns_only item slot fine quiet at stood =
+        let r = rules_of m layers in
+        let p = parts r (Took item ∷ h) in
+        each_good r (Waits r (parts r h)) (λ x. is_open_in m layers p x ≡ true → is_column_at slot x ≡ true) (λ x one waits opened.
+        elim (cases_Bool (is_column_at slot x)) [
+          | inl column ↦ column
+          | inr elsewhere ↦
+              let fails : is_open_in m layers p x ≡ false =
+              open_same m layers laws p stood x one
+              ∙ (ap (λ (q : Parts). is_open r q x) (quiet_parts item quiet)
+              ∙ (open_elsewhere r laws (parts r h) item x fine one (sym (ap (λ (s : Slot). is_column_at s x) at) ∙ elsewhere)
+              ∙ left_false (is_open r (parts r h) x) (is_item_past r (parts r h) x) waits)) in
+              absurd (both_ways (is_open_in m layers p x) fails opened)
+        ]) held good waiting
+
     leave_so : (e : Entry) (change : Change) → MayEnter (rules_of m layers) (parts (rules_of m layers) h) e → HeldChange change e (rules_of m layers) (parts (rules_of m layers) h) →
         LayersStand m layers (parts (rules_of m layers) (e ∷ h)) → MayLeave m change layers (parts (rules_of m layers) (e ∷ h)) held
     leave_so e changes.Service may only stood =
@@ -392,15 +467,18 @@ module _ {S E C T : Type 0} (m : Meaning S E C T) (opening : OpensWell m) (layer
           opens = grouped m opening.down opening.by_kind layers p held good;
           ends = ending m opening.down opening.by_kind layers p (remaining (is_open_in m layers p) held) (good_remaining r (is_open_in m layers p) held good);
         }
-    leave_so (Took item) changes.Columns may only stood = record {
-      opens = grouped m opening.down opening.by_kind layers (parts (rules_of m layers) (Took item ∷ h)) held good;
-      ends = past_none item only stood;
+    leave_so (Took item) (changes.Columns slot) may only stood = record {
+      opens = record {
+        grouped = grouped m opening.down opening.by_kind layers (parts (rules_of m layers) (Took item ∷ h)) held good;
+        columns = columns_only item slot may.good only.0 only.1 stood;
+      };
+      ends = past_none item only.0 stood;
     }
     leave_so (Took item) changes.Cast may only stood = record {
       opens = open_none item may.good only.0 only.1 stood;
       ends = past_none item only.0 stood;
     }
-    leave_so (Given v) changes.Columns may only stood = absurd only
+    leave_so (Given v) (changes.Columns slot) may only stood = absurd only
     leave_so (Given v) changes.Cast may only stood = absurd only
 
 pub may_leave : {S E C T : Type 0} (m : Meaning S E C T) → OpensWell m → (layers : Layers S E C T) → LayerLaws (rules_of m layers) → (h : List Entry) (e : Entry) (change : Change)

@@ -5,7 +5,6 @@ use Rattle.ritas_base.specs.declared.bytes.Mem.{Mem}
 use Rattle.ritas_base.specs.declared.slot.Slot.{Slot}
 use Rattle.ritas_base.specs.declared.item.Item.{Item}
 use Rattle.ritas_base.specs.declared.item.Msg.{Msg}
-use Rattle.ritas_base.specs.declared.item.Kind.{Kind}
 use Rattle.ritas_base.specs.declared.item.Say.{Say}
 use Rattle.ritas_base.specs.SlotOrder.{slot_cmp}
 use Rattle.layer_api.specs.Broadcast.{MayTake}
@@ -125,14 +124,14 @@ pub record RepeatsItem {S E C T : Type 0} (m : Meaning S E C T) (old new : Layer
 abbrev pub DeliversNone : {S E C T : Type 0} → Meaning S E C T → Layers S E C T → Item → Type 0
 DeliversNone m old item = (p : Parts) → CanTakeItem m old item p → item_delivers (rules_of m old) item p ≡ None
 
--- what an item of this kind changes then: columns are of the form of echo broadcast, and so is all else at their slots
-abbrev pub quiet_change : Kind → Change
-quiet_change kind = if is_of_form 2 kind then changes.Columns else changes.Cast
+-- what an item changes then: columns are of the form of echo broadcast, and so is all else at their slots
+abbrev pub quiet_change : Item → Change
+quiet_change item = if is_of_form 2 item.kind then changes.Columns item.slot else changes.Cast
 
 -- only so much changed
 abbrev pub ChangesOnly : {S E C T : Type 0} → Meaning S E C T → Layers S E C T → Item → Change → Type 0
 ChangesOnly m old item changes.Service = Unit {0}
-ChangesOnly m old item changes.Columns = DeliversNone m old item
+ChangesOnly m old item (changes.Columns slot) = DeliversNone m old item × (slot ≡ item.slot)
 ChangesOnly m old item changes.Cast = DeliversNone m old item × (is_of_form 2 item.kind ≡ false)
 
 -- it was taken, and this changed

@@ -68,12 +68,12 @@ fn keep_output(
     Ok(())
 }
 
-/// What an item of this kind changes where its slot delivers nothing: columns are at slots of echo broadcast alone.
-fn quiet_change(kind: Kind) -> Change
-    ensures { result ≡ quiet_change kind }
+/// What an item changes where its slot delivers nothing: columns are at slots of echo broadcast alone.
+fn quiet_change(item: &Item) -> Change
+    ensures { result ≡ quiet_change item.now }
 {
-    match kind {
-        Kind::Send | Kind::Hashes | Kind::Column => Change::Columns,
+    match item.kind {
+        Kind::Send | Kind::Hashes | Kind::Column => Change::Columns(item.slot),
         _ => Change::Cast,
     }
 }
@@ -177,7 +177,7 @@ impl<S: Service, E: Broadcast, C: Coin + Drop, T: Tagger + Drop> Layers<S, E, C,
             made,
         )? {
             Taken::Repeat => Ok(None),
-            Taken::Took(None) => Ok(Some(quiet_change(item.kind))),
+            Taken::Took(None) => Ok(Some(quiet_change(item))),
             Taken::Took(Some(value)) => {
                 self.hear(alloc, &item.slot, value.as_slice(), made)?;
                 keep_output(&self.mode, &mut self.outputs, item.slot, value)?;

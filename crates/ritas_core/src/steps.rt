@@ -7,7 +7,7 @@ ghost use Rattle.ritas_core.specs.Parts.{Parts};
 ghost use Rattle.ritas_core.specs.Order.{ordered, own_items, Extends};
 ghost use Rattle.ritas_core.specs.Stands.{meaning, LayersStand};
 ghost use Rattle.ritas_core.specs.LayerCalls.{SameSeat, GivesItem, is_past_in, is_open_in};
-ghost use Rattle.ritas_core.specs.Waiting.{AreGrouped, MayOpen, MayEnd};
+ghost use Rattle.ritas_core.specs.Waiting.{is_column_at, AreGrouped, AreColumns, MayOpen, MayEnd};
 
 use crate::answer::Answer;
 use crate::change::Change;
@@ -17,7 +17,7 @@ use crate::layers::Layers;
 use crate::send::{in_order, keep_own};
 use layer_api::{Broadcast, Service};
 use ooc_buffers::Held;
-use ritas_base::{Coin, Item, Mem, Msg, Tagger};
+use ritas_base::{Coin, Item, Kind, Mem, Msg, Slot, Tagger};
 use std::alloc::Global;
 use std::collections::VecDeque;
 
@@ -36,7 +36,38 @@ fn open<S: Service, E: Broadcast, C: Coin + Drop, T: Tagger + Drop>(
         → OnOk result (held.new ≡ remaining (is_open_in m layers.now p) held.old) }
     ensures err { OnErr result ((inbox.new.items ≡ inbox.old.items) × (held.new ≡ held.old)) }
 {
-    held.release_groups(alloc, |item| layers.is_open(item), inbox)
+    held.release(alloc, |item| layers.is_open(item), inbox)
+}
+
+/// Whether an item is a column of this slot.
+fn is_column_at(slot: Slot, item: &Item) -> bool
+    ensures { result ≡ is_column_at slot item.now }
+{
+    item.kind == Kind::Column && slot == item.slot
+}
+
+/// Moves the open columns of a slot to the back of the inbox, where nothing else may have opened. For want of memory nothing
+/// moved.
+fn open_columns<S: Service, E: Broadcast, C: Coin + Drop, T: Tagger + Drop>(
+    alloc: Global,
+    layers: &Layers<S, E, C, T>,
+    slot: Slot,
+    held: &mut Held,
+    inbox: &mut VecDeque<Item>,
+) -> Result<(), Mem>
+    ensures inbox { let m = meaning S.stands S.rules S.shown E.stands E.rules E.shown C.bits T.me T.tags in
+        (p : Parts) → LayersStand m layers.now p → AreColumns slot (is_open_in m layers.now p) held.old
+        → OnOk result (inbox.new.items ≡ inbox.old.items ++ released (is_open_in m layers.now p) held.old) }
+    ensures held { let m = meaning S.stands S.rules S.shown E.stands E.rules E.shown C.bits T.me T.tags in
+        (p : Parts) → LayersStand m layers.now p → AreColumns slot (is_open_in m layers.now p) held.old
+        → OnOk result (held.new ≡ remaining (is_open_in m layers.now p) held.old) }
+    ensures err { OnErr result ((inbox.new.items ≡ inbox.old.items) × (held.new ≡ held.old)) }
+{
+    held.release(
+        alloc,
+        |item| is_column_at(slot, item) && layers.is_open(item),
+        inbox,
+    )
 }
 
 /// Moves what is open to the back of the inbox, where something may have opened. For want of memory nothing moved.
@@ -57,7 +88,7 @@ fn release<S: Service, E: Broadcast, C: Coin + Drop, T: Tagger + Drop>(
 {
     match change {
         Change::Cast => Ok(()),
-        Change::Columns => open(alloc, layers, held, inbox),
+        Change::Columns(slot) => open_columns(alloc, layers, slot, held, inbox),
         Change::Service => open(alloc, layers, held, inbox),
     }
 }
@@ -100,8 +131,8 @@ fn forget<S: Service, E: Broadcast, C: Coin + Drop, T: Tagger + Drop>(
         → held.new ≡ remaining (λ x. is_past_in m layers.now p x.slot) held.old }
 {
     match change {
-        Change::Cast | Change::Columns => {}
-        Change::Service => held.forget_groups(|item| layers.is_past(&item.slot)),
+        Change::Cast | Change::Columns(_) => {}
+        Change::Service => held.forget(|item| layers.is_past(&item.slot)),
     }
 }
 

@@ -1,5 +1,6 @@
-use Rattle.std.proofs.Common.{◌≡◌, ◌<◌, ◌+◌, ap, arith, length, rules}
-use Rattle.ooc_buffers.specs.Lists.{passing}
+use Rattle.std.proofs.Common.{◌≡◌, ◌<◌, ◌+◌, ◌∙◌, ap, arith, length, rules, List}
+use Rattle.std.proofs.lemmas.List.{take_all}
+use Rattle.ooc_buffers.specs.Lists.{HeldItem, passing, released}
 use Rattle.ooc_buffers.proofs.Peers.{count_more, right_at}
 use Rattle.ooc_buffers.proofs.held.room_for.Goals as goal
 
@@ -10,3 +11,8 @@ loop-peer-preserved g c = λ t right computes goes rights.
     let here = ap (λ l. length (passing t l)) c.peer-item.is in
     let more = count_more t c.args.peers.now c.loop-peer.peer-index c.peer-item.result c.loop-peer.room within (c.loop-peer.invariant t right computes goes rights) in
     omega (arith, sum, here, more, c.in_ok-count.ensures t right computes goes (right_at right c.args.peers.now c.loop-peer.peer-index c.peer-item.result within c.peer-item.is rights))
+
+pub returns : goal.returns
+returns g c = λ t right computes goes rights.
+    c.loop-peer.invariant t right computes goes rights
+    ∙ ap (λ (l : List (List HeldItem)). length (released t l)) (take_all c.loop-peer.peer-index c.args.peers.now c.loop-peer-test.false)

@@ -1,12 +1,13 @@
 use Rattle.std.proofs.Common.{◌≡◌, ◌+◌, ℕ, Bool, length}
 use Rattle.ritas_base.specs.declared.item.Item.{Item}
+use Rattle.ritas_base.specs.declared.slot.Slot.{Slot}
 use Rattle.ooc_buffers.specs.Closures.{Computes}
-use Rattle.ooc_buffers.specs.Groups.{AreRight}
-use Rattle.ooc_buffers.specs.Spots.{held_in, pass, rest_from, AreAt, GoesBy}
+use Rattle.ooc_buffers.specs.Groups.{GoesBy, AreRight}
+use Rattle.ooc_buffers.specs.Spots.{held_in, pass, rest_from, AreAt}
 use Rattle.ooc_buffers.proofs.search.count_open.Given as goal
 
 abbrev pub invariant-loop-spot : goal.invariant-loop-spot
-invariant-loop-spot g l = (t right : Item → Bool) (next : ℕ) → Computes g.F.Fn l.test t → GoesBy l.walk right t → AreAt next l.items.entries → AreRight right (held_in l.items.entries)
+invariant-loop-spot g l = (t : Item → Bool) (right : Slot → Bool) (next : ℕ) → Computes g.F.Fn l.test t → GoesBy right t → AreAt next l.items.entries → AreRight right (held_in l.items.entries)
     → l.found + length (pass t (rest_from l.from l.items.entries)) ≡ length (pass t l.items.entries)
 
 abbrev pub decreases-loop-spot : goal.decreases-loop-spot

@@ -34,7 +34,7 @@ returns-then-passes-clause-steps g c =
 pub loop-spot-smaller : goal.loop-spot-smaller
 loop-spot-smaller g c =
     let is = sym (c.range.ensures.between tt) ∙ c.in-Some.ensures.steps in
-    let b = spot_behind c.args.walk c.in-Some.spot.now in
+    let b = spot_behind c.in-Some.spot.now in
     let low : is_gt (spot_cmp c.in-Some.spot.now b) ≡ false =
     subst (λ (s : Spot). is_gt (spot_cmp c.in-Some.spot.now s) ≡ false) c.behind.ensures.spot c.behind.ensures.later in
     let less = shorter c.loop-spot.from c.args.items.now.entries (c.in-Some.spot.now, c.in-Some.entry.now) _ b is low in
@@ -45,7 +45,7 @@ loop-spot-smaller g c =
 pub loop-spot-preserved : goal.loop-spot-preserved
 loop-spot-preserved g c =
     let is = sym (c.range.ensures.between tt) ∙ c.in-Some.ensures.steps in
-    let b = spot_behind c.args.walk c.in-Some.spot.now in
+    let b = spot_behind c.in-Some.spot.now in
     let low : is_gt (spot_cmp c.in-Some.spot.now b) ≡ false =
     subst (λ (s : Spot). is_gt (spot_cmp c.in-Some.spot.now s) ≡ false) c.behind.ensures.spot c.behind.ensures.later in
     let less = shorter c.loop-spot.from c.args.items.now.entries (c.in-Some.spot.now, c.in-Some.entry.now) _ b is low in
@@ -56,7 +56,7 @@ loop-spot-preserved g c =
       same = λ t right next computes goes ats rights.
           let fails = sym (c.passes.ensures t computes) ∙ c.if-passes.false in
           ap (λ (s : Spot). pass t (rest_from (Excluded s) c.args.items.now.entries)) c.behind.ensures.spot
-          ∙ (gone_on c.args.walk t right next c.loop-spot.from c.args.items.now.entries (c.in-Some.spot.now, c.in-Some.entry.now) _ c.range.ensures.ordered is low fails goes ats rights
+          ∙ (gone_on t right next c.loop-spot.from c.args.items.now.entries (c.in-Some.spot.now, c.in-Some.entry.now) _ c.range.ensures.ordered is low fails goes ats rights
           ∙ c.loop-spot.invariant.same t right next computes goes ats rights);
     }
 

@@ -10,4 +10,4 @@ returns-in-Service g c =
     meaning g.S.Service.stands g.S.Service.rules g.S.Service.shown b.stands b.rules b.shown g.C.Coin.bits g.T.Tagger.me g.T.Tagger.tags in
     λ p stood may.
     let so = rw c.in-Service.is at may in
-    c.forget_groups.ensures (λ x. is_past_in m c.args.layers.now p x.slot) so.right (λ x r k. search rules) so.ends so.all
+    c.forget.ensures (λ x. is_past_in m c.args.layers.now p x.slot) so.right (λ x r k. search rules) so.ends so.all

@@ -1,6 +1,4 @@
-use Rattle.std.proofs.Common.{true}
-use Rattle.ooc_buffers.proofs.Peers.{every_right}
 use Rattle.ooc_buffers.proofs.held.Held.forget.Goals as goal
 
 pub returns : goal.returns
-returns g c = λ t computes. c.clear.ensures t (λ _. true) computes tt (every_right c.args.self.now)
+returns g c = λ t right computes ends rights. c.clear.ensures t right computes (record { opens = λ x y fine other same near passes. ends x y fine other same passes }) rights

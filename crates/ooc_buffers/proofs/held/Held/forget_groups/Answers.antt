@@ -1,4 +1,0 @@
-use Rattle.ooc_buffers.proofs.held.Held.forget_groups.Goals as goal
-
-pub returns : goal.returns
-returns g c = λ t right computes ends rights. c.clear.ensures t right computes (λ x y fine other same near passes. ends x y fine other same passes) rights
