@@ -1,12 +1,12 @@
 -- A piece of a served log is read as one of that log.
-use Rattle.std.proofs.Common.{◌≡◌, ℕ, zero, suc, ◌-◌, ◌<◌, ◌≤◌, ◌⊎◌, nat_le, Bool, true, false, List, [], ◌∷◌, ◌++◌, length, drop, reverse, Some, refl, sym, subst, inl, inr, arith, length-append, length-drop, if◌then◌else◌}
+use Rattle.std.proofs.Common.{◌≡◌, ℕ, zero, suc, ◌-◌, ◌<◌, ◌≤◌, ◌⊎◌, nat_le, Bool, true, false, List, [], ◌∷◌, ◌++◌, length, drop, reverse, refl, sym, subst, inl, inr, arith, length-append, length-drop, if◌then◌else◌}
 use Rattle.std.specs.List.{AllByRecursion}
 use Rattle.std.proofs.lemmas.Bool.{leb-true}
 use Rattle.std.proofs.lemmas.List.{reverse-append, length-reverse}
 use Rattle.ritas_base.specs.declared.event.Event.{Event}
 use Rattle.outside.specs.Links.{replies_in}
 use Rattle.layer_api.specs.Broadcast.{BroadcastRules}
-use Rattle.layer_api.specs.Service.{ServiceRules, IsPart}
+use Rattle.layer_api.specs.Service.{ServiceRules}
 use Rattle.command_log.specs.Index.{HaveFourBytes}
 use Rattle.command_log.specs.Rows.{Row, HasRow}
 use Rattle.command_log.specs.Pieces.{Piece, row_size, rows_bytes, piece_front, most_rows, longest_log_piece, rows_within, piece_of_log, piece_bytes, IsOfLog}

@@ -1,5 +1,5 @@
--- The queries that are served fit a piece, and so do the logs that they find. Lists of rounds, of groups and of events have
--- the newest first.
+-- The queries that are served fit a piece, and so do the logs that they find. Lists of rounds, of
+-- groups and of events have the newest first.
 use Rattle.std.specs.Prelude.{◌≡◌, ℕ, ◌<◌, true, List, [], ◌∷◌}
 use Rattle.std.specs.Option.{IfSome}
 use Rattle.ritas_base.specs.declared.event.Event.{Event}
@@ -12,11 +12,12 @@ use Rattle.world_model.specs.Agree.{rows_at}
 use Rattle.node_loop.specs.Serving.{Serving, so_far, Round, Began, Turned, Reminded, Took, after_from}
 use Rattle.node_loop.specs.Told.{after_groups}
 
--- where a message to a replica that is here is a query, its position has four bytes, and so have the numbers of clients and
--- of requests in that replica's log
+-- where a message to a replica that is here is a query, its position has four bytes, and so have
+-- the numbers of clients and of requests in that replica's log
 abbrev pub FitsPiece : Setting → List Event → ℕ → List ℕ → Type 0
 FitsPiece w es at bytes = w.is_correct at ≡ true
-    → IfSome (query_in bytes) (λ position. (position < 4294967296) × HaveFourBytes (rows_at w es at))
+    → IfSome (query_in bytes)
+    (λ position. (position < 4294967296) × HaveFourBytes (rows_at w es at))
 
 -- so it is of an item that the link gave
 abbrev pub ItemFits : Setting → List Event → LinkItem → Type 0

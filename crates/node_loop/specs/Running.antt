@@ -20,7 +20,8 @@ use Rattle.node_loop.specs.Groups.{Under}
 use Rattle.node_loop.specs.Keeping.{kept_of}
 use Rattle.node_loop.specs.Standing.{HouseStands}
 
--- it serves: these are the groups so far, whose queries fit, of its first items these are left, and the archive stands for what is kept
+-- it serves: these are the groups so far, whose queries fit, of its first items these are left, and
+-- the archive stands for what is kept
 pub record Running {S E C : Type 0} (m : Meaning S E C KeyRow) (w : Setting) (past : List Event) (numbers : List ℕ) (house : House S E C)
     (tells : Tells) (base : Outs) (now : Moment) (taken : ℕ) (until limit : ℕ) (start : Serving) (left : List LinkItem) : Type 0 where
   pub groups : List (List Round)
@@ -33,8 +34,9 @@ pub record Running {S E C : Type 0} (m : Meaning S E C KeyRow) (w : Setting) (pa
   pub agrees : Agrees tells base now.outs (after_groups w past start groups).events (told_from w past start groups)
   pub kept : now.stands (kept_of w past (after_groups w past start groups).events)
 
--- A group is under way, behind older ones: each of its rounds is what the rules said, and fits, the house stands after them, and the group holds what
--- came of them. It has so many. Nothing of it was delivered yet; the link gave its items.
+-- A group is under way, behind older ones: each of its rounds is what the rules said, and fits, the
+-- house stands after them, and the group holds what came of them. It has so many. Nothing of it was
+-- delivered yet; the link gave its items.
 pub record Gathered {S E C : Type 0} (m : Meaning S E C KeyRow) (w : Setting) (past : List Event) (numbers : List ℕ) (house : House S E C) (group : Group)
     (tells : Tells) (base : Outs) (now : Moment) (taken : ℕ) (until limit : ℕ) (start : Serving) (left : List LinkItem) (many : ℕ) : Type 0 where
   pub older : List (List Round)

@@ -64,8 +64,9 @@ EndsSo m w past numbers here tells base now ends.Mem earlier s sooner news rule 
 EndsSo m w past numbers here tells base now ends.DiskFault earlier s sooner news rule = ⊥
 EndsSo m w past numbers here tells base now (ends.JournalFull x) earlier s sooner news rule = ⊥
 
--- There are groups of rounds, each round what the rules said, after which serving ended so. The items that these took are those that the link gave,
--- before its end: where it tells, each call but those of the newest group is told. Each query of them, and the log that it found, fits a piece.
+-- There are groups of rounds, each round what the rules said, after which serving ended so. The
+-- items that these took are those that the link gave, before its end: where it tells, each call but
+-- those of the newest group is told. Each query of them, and the log that it found, fits a piece.
 pub record Serves {S E C : Type 0} (m : Meaning S E C KeyRow) (w : Setting) (past : List Event) (numbers : List ℕ) (here : List (Replica S E C))
     (tells : Tells) (base now : Outs) (end : ServeEnd) (until limit : ℕ) (first : List LinkItem) : Type 0 where
   pub groups : List (List Round)

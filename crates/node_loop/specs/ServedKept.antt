@@ -39,8 +39,9 @@ newest_kept w past start groups = kept_of w (so_far past (before_newest w past s
 abbrev pub earlier_kept : Setting → List Event → Serving → List (List Round) → List Event
 earlier_kept w past start groups = kept_of w past (before_newest w past start groups).events
 
--- of serving that begins so there are groups of rounds, each round what the rules said, and each query such as fits a piece, after which it ended so,
--- and the archive stands for what is kept of their events
+-- of serving that begins so there are groups of rounds, each round what the rules said, and each
+-- query such as fits a piece, after which it ended so, and the archive stands for what is kept of
+-- their events
 pub record ServesKept {S E C : Type 0} (m : Meaning S E C KeyRow) (w : Setting) (past : List Event) (numbers : List ℕ) (here : List (Replica S E C))
     (tells : Tells) (base : Outs) (now : Moment) (end : ServeEnd) (until limit : ℕ) (start : Serving) : Type 0 where
   pub groups : List (List Round)
