@@ -19,10 +19,11 @@ use Rattle.node_loop.specs.ServedKept.{EndsKept, earlier_kept, newest_kept}
 use Rattle.node_loop.specs.Serving.{so_far, wants, Round}
 use Rattle.node_loop.specs.Told.{AreGroups, after_groups, newest_calls, sooner}
 
--- The past events, which a journal kept, happened again: the tape takes them in front of the others, and nothing of them goes to the link. Then there
--- are groups of rounds, each round what the rules said, after which it ended so, and the archive stands for what is kept of their events. A tape that
--- fails over the past ones, and want of memory there, are ends before any round; where memory ran out there, none was written. Each query, and the log
--- that it found, fits a piece.
+-- The past events, which a journal kept, happened again: the tape takes them in front of the
+-- others, and nothing of them goes to the link. Then there are groups of rounds, each round what
+-- the rules said, after which it ended so, and the archive stands for what is kept of their events.
+-- A tape that fails over the past ones, and want of memory there, are ends before any round; where
+-- memory ran out there, none was written. Each query, and the log that it found, fits a piece.
 pub record ServesAgain {S E C : Type 0} (m : Meaning S E C KeyRow) (w : Setting) (past : List Event) (numbers : List ℕ) (here : List (Replica S E C))
     (tells : Tells) (base : Outs) (now : Moment) (end : ServeEnd) (until limit : ℕ) : Type 0 where
   pub groups : List (List Round)
@@ -46,14 +47,21 @@ pub record Life (S E C D : Type 0) : Type 0 where
   pub outs : Outs
 
 abbrev pub life : {S E C D : Type 0} → List (Replica S E C) → JournalState → D → Outs → Life S E C D
-life replicas journal disk outs = record { replicas = replicas; journal = journal; disk = disk; outs = outs }
+life replicas journal disk outs = record {
+  replicas = replicas;
+  journal = journal;
+  disk = disk;
+  outs = outs;
+}
 
--- Where the replicas are those of a world before any event, the journal's is one of them, and the journal was opened as the
--- recovered events, which stand in their order, it ended so.
-abbrev pub ServesAfter : {S E C D : Type 0} → Meaning S E C KeyRow → DiskGhosts D → Tells → List Event → Life S E C D
-    → Life S E C D → ServeEnd → ℕ → ℕ → Type 0
-ServesAfter m storage tells recovered old new end until limit = (head : List ℕ) (w : Setting) (numbers : List ℕ)
+-- Where the replicas are those of a world before any event, the journal's is one of them, and the
+-- journal was opened as the recovered events, which stand in their order, it ended so.
+abbrev pub ServesAfter : {S E C D : Type 0} → Meaning S E C KeyRow → DiskGhosts D → Tells
+    → List Event → Life S E C D → Life S E C D → ServeEnd → ℕ → ℕ → Type 0
+ServesAfter m storage tells recovered old new end until limit =
+    (head : List ℕ) (w : Setting) (numbers : List ℕ)
     → AreHere m w [] numbers old.replicas → w.is_correct old.journal.me ≡ true
     → OpenedAs storage head (reverse recovered) old.journal old.disk
     → ServesAgain m w (reverse recovered) numbers new.replicas tells old.outs
-    (journal_moment storage head (reverse recovered) old.journal.me old.disk new.outs new.journal new.disk) end until limit
+    (journal_moment storage head (reverse recovered) old.journal.me old.disk new.outs
+    new.journal new.disk) end until limit
