@@ -17,23 +17,27 @@ use Rattle.node_loop.specs.Waiting.{Waiting, is_conn}
 
 -- ---- a message of a client
 
--- A request whose row has a position wants memory only to reply to a connection. One for which these wait wants it only
--- where its connection doesn't wait yet. One that is submitted may want it anyhow.
+-- A request whose row has a position wants memory only to reply to a connection. One for which
+-- these wait wants it only where its connection doesn't wait yet. One that is submitted may want it
+-- anyhow.
 abbrev pub AskedMayWant : Option ℕ → List (Option ℕ) → Option ℕ → Type 0
 AskedMayWant conn waits (Some position) = conn ≢ None
 AskedMayWant conn waits None = is_waited_for waits ≡ true → list_any (is_conn conn) waits ≡ false
 
 -- of a request, in the log of a replica
 abbrev pub WaitMayWant : Setting → List Event → ℕ → Option ℕ → Waiting → Asked → Type 0
-WaitMayWant w es at conn ws a = AskedMayWant conn (ws a) (position_of (rows_at w es at) a.client a.request)
+WaitMayWant w es at conn ws a =
+    AskedMayWant conn (ws a) (position_of (rows_at w es at) a.client a.request)
 
 -- a message that is no query: what no request is, is submitted
-abbrev pub RequestMayWant : Setting → List Event → ℕ → Option ℕ → List ℕ → Waiting → Option Request → Type 0
+abbrev pub RequestMayWant : Setting → List Event → ℕ → Option ℕ → List ℕ → Waiting
+    → Option Request → Type 0
 RequestMayWant w es at conn bytes ws None = Unit {0}
 RequestMayWant w es at conn bytes ws (Some r) = WaitMayWant w es at conn ws (asked_in at bytes)
 
 -- a message to a replica that is here; a query may want it anyhow
-pub record MessageMayWant (w : Setting) (es : List Event) (at : ℕ) (conn : Option ℕ) (bytes : List ℕ) (ws : Waiting) : Type 0 where
+pub record MessageMayWant (w : Setting) (es : List Event) (at : ℕ) (conn : Option ℕ)
+    (bytes : List ℕ) (ws : Waiting) : Type 0 where
   pub here : w.is_correct at ≡ true
   pub request : query_in bytes ≡ None → RequestMayWant w es at conn bytes ws (request_in bytes)
 
