@@ -6,7 +6,7 @@ ghost use Rattle.std.specs.Int.{w32, from_be_bytes};
 ghost use Rattle.ritas_base.specs.Limits.{least_request};
 ghost use Rattle.command_log.specs.Origins.{origin_count};
 ghost use Rattle.command_log.specs.Rows.{CommandEntry, client_of, request_of, row_of, has_row, is_origin, row_at, position_of, entered, HasPlace};
-ghost use Rattle.command_log.specs.Index.{row_key};
+ghost use Rattle.command_log.specs.Index.{row_key, HaveFourBytes};
 ghost use Rattle.command_log.specs.Standing.{StandsFor, HasEntered, WaitsWith, IsEntryLost};
 
 use crate::origins::OriginSet;
@@ -192,6 +192,15 @@ impl Log {
         ensures exact { (position : ℕ) → (result ≡ Some position) ↔ HasPlace self.now.rows position client request }
     {
         self.index.get(&key_of(client, request)).copied()
+    }
+
+    /// The numbers of each row's client and request have four bytes, as their types have.
+    ///
+    /// It does nothing: its contract is the fact.
+    pub fn numbers_fit(&self)
+        ensures { HaveFourBytes self.now.rows }
+    {
+        let _ = &self.rows;
     }
 
     /// How many rows there are, which is the position of the next.
