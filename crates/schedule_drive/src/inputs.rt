@@ -50,13 +50,7 @@ fn value_text(alloc: Global, mode: Mode, v: u32) -> Result<Bytes, Mem>
     Ok(Bytes::from_vec(out))
 }
 
-fn command_text(
-    alloc: Global,
-    mode: Mode,
-    client: u8,
-    request: u32,
-    k: u32,
-) -> Result<Bytes, Mem>
+fn command_text(alloc: Global, mode: Mode, client: u8, request: u32, k: u32) -> Result<Bytes, Mem>
     ensures text { IfOk result (λ b. b ≡ command_text mode.root client request k) }
     ensures short { IfOk result (λ b. length b < 2 ^ 16) }
 {
