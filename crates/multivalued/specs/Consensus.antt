@@ -17,7 +17,7 @@ use Rattle.layer_api.specs.Words.{Word, value_at, bit_byte}
 use Rattle.layer_api.specs.Binary.{BinaryRules, Bench}
 use Rattle.layer_api.specs.Part.{proposed, newly, part_of, part_words, says_in}
 use Rattle.layer_api.specs.Multi.{Scope, Desk, MultiRules, is_multi_slot}
-use Rattle.ritas_base.specs.Places.{push, listed}
+use Rattle.ritas_base.specs.Places.{listed}
 use Rattle.std.specs.Option.{option_flatten}
 
 -- ---- values

@@ -6,11 +6,10 @@ use Rattle.std.specs.Simd.Lanes.{mask_l}
 use Rattle.ritas_base.specs.declared.slot.Slot.{Slot}
 use Rattle.ritas_base.specs.declared.item.Say.{Say}
 use Rattle.ritas_base.specs.Numbers.{wait_of}
-use Rattle.ritas_base.specs.History.{replicas}
 use Rattle.ritas_base.specs.Shortest.{at_shortest}
 use Rattle.frame_codec.specs.Values.{vector_bytes}
 use Rattle.layer_api.specs.Service.{Instance, OfBit, OfValue, OfVector, Decision, vector_decision}
-use Rattle.layer_api.specs.Words.{Word, value_at}
+use Rattle.layer_api.specs.Words.{Word}
 use Rattle.layer_api.specs.Part.{proposed, newly, part_of, part_words, says_in}
 use Rattle.layer_api.specs.Multi.{Scope, Desk, MultiRules}
 use Rattle.layer_api.specs.Vectors.{VectorRules, is_vector_slot}

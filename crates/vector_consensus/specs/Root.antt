@@ -1,5 +1,5 @@
 -- Vector consensus as a root service: one instance, of round 0, whose input is a value of class 2.
-use Rattle.std.specs.Prelude.{ℕ, ◌==◌, ◌&&◌, if◌then◌else◌, List, [], Option, Some, None}
+use Rattle.std.specs.Prelude.{◌==◌, ◌&&◌, if◌then◌else◌, List, [], Option, Some, None}
 use Rattle.layer_api.specs.Service.{ServiceRules, Seat, Decides, vector_with, Instance, OfBit, OfValue, OfVector, Decision, vector_decision, Ending, Undecided, Decided}
 use Rattle.layer_api.specs.Words.{Word}
 use Rattle.layer_api.specs.OneInstance.{is_given}

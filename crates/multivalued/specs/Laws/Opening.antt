@@ -1,14 +1,13 @@
 -- The slots that open go by class, number, attempt and round alone.
 use Rattle.std.specs.Prelude.{◌≡◌, ℕ, ◌+◌, ◌≤◌, Bool, true, false, ◌==◌, ◌&&◌, nat_le, List, is_some, if◌then◌else◌}
-use Rattle.std.proofs.Common.{sym, ◌∙◌, ap, arith}
+use Rattle.std.proofs.Common.{◌∙◌, ap, arith}
 use Rattle.std.proofs.lemmas.Bool.{and_parts, and_from, leb-true, le-leb}
-use Rattle.ritas_base.specs.declared.slot.Slot.{Slot}
 use Rattle.layer_api.specs.Service.{Seat}
 use Rattle.layer_api.specs.Words.{Word}
 use Rattle.layer_api.specs.Part.{proposed}
 use Rattle.layer_api.specs.Binary.{BinaryRules}
 use Rattle.layer_api.specs.Multi.{Scope, Desk, MultiRules, is_multi_slot}
-use Rattle.layer_api.specs.OpeningLaws.{IsNoLater, OpensDown, no_later_of}
+use Rattle.layer_api.specs.OpeningLaws.{OpensDown, no_later_of}
 use Rattle.multivalued.specs.Consensus.{is_step, bit_asked, bit_words, bench_of, multi_opens, multivalued}
 use Rattle.multivalued.specs.Root.{multi_root_desk, multi_root}
 

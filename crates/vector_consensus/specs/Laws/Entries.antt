@@ -1,6 +1,6 @@
 -- The entries of the vector of all proposals are those proposals, so in a decided vector the entry of a correct replica is what it
 -- proposed.
-use Rattle.std.specs.Prelude.{◌≡◌, ℕ, zero, suc, ◌<◌, ◌≤◌, ◌+◌, ◌^◌, Bool, true, false, ◌&&◌, nat_le, List, [], ◌∷◌, map, drop, length, count_by, Option, Some, None, is_some, refl, cond}
+use Rattle.std.specs.Prelude.{◌≡◌, ℕ, zero, suc, ◌<◌, ◌+◌, ◌^◌, Bool, true, false, ◌&&◌, nat_le, List, [], ◌∷◌, map, drop, length, count_by, Option, Some, None, is_some, refl, cond}
 use Rattle.std.specs.List.{slice_get, range_with_len}
 use Rattle.std.specs.Int.RustNames.{count_ones}
 use Rattle.std.specs.Simd.Lanes.{mask_l}

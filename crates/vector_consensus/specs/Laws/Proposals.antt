@@ -1,6 +1,5 @@
 -- The vector of all proposals is a vector, once n - f of them are there.
-use Rattle.std.specs.Prelude.{◌≡◌, ℕ, ◌==◌, ◌<◌, ◌≤◌, ◌^◌, true, nat_lt, List, [], ◌∷◌, map, length, count_by, Option, Some, None, is_some, refl}
-use Rattle.std.specs.List.{AllByRecursion}
+use Rattle.std.specs.Prelude.{◌≡◌, ℕ, ◌==◌, ◌<◌, ◌≤◌, ◌^◌, true, nat_lt, List, map, length, count_by, Some, is_some, refl}
 use Rattle.std.specs.Int.RustNames.{count_ones}
 use Rattle.std.specs.Simd.Lanes.{mask_l}
 use Rattle.std.proofs.Common.{sym, ◌∙◌, subst, inl, inr, arith}
@@ -9,9 +8,8 @@ use Rattle.std.proofs.Math.Pow.{pow-lt}
 use Rattle.std.proofs.lemmas.Simd.{mask_l-lt, ones-mask_l}
 use Rattle.std.proofs.lemmas.List.{length-map}
 use Rattle.std.proofs.lemmas.List.FromFn.{length-map-range_with_len}
-use Rattle.ritas_base.specs.Numbers.{Numbers, IsSession, wait_of}
+use Rattle.ritas_base.specs.Numbers.{IsSession, wait_of}
 use Rattle.ritas_base.specs.History.{replicas}
-use Rattle.ritas_base.specs.Quorums.{count_yes, count_no}
 use Rattle.frame_codec.specs.Format.{Format, Is}
 use Rattle.frame_codec.specs.Grammar.{class2, class3, vector, value, is_places}
 use Rattle.frame_codec.specs.VectorLaws.{vector_written}
