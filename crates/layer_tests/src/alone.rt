@@ -3,6 +3,7 @@
 use crate::zeros::ZeroCoin;
 use atomic_bcast::{Abc, CmdRoot};
 use binary_consensus::{Bin, BinRoot};
+use direct_atomic::Direct;
 use layer_api::{Outcome, Service};
 use multivalued::{Mvc, MvcRoot};
 use ritas_base::{Id, Mem, Params, Say};
@@ -68,6 +69,12 @@ fn counts<S: Service>(service: &S) -> (u32, bool, u32) {
 #[test]
 fn a_command_in_a_log(rt: HostRuntime) {
     let root: Abc<Vc<Mvc<Bin>>> = alone(&rt, rt.alloc(), b"client_1").expect(&rt, "memory");
+    assert!(rt; counts(&root) == (1, true, 1));
+}
+
+#[test]
+fn a_command_in_a_log_of_lists(rt: HostRuntime) {
+    let root: Direct<Mvc<Bin>> = alone(&rt, rt.alloc(), b"client_1").expect(&rt, "memory");
     assert!(rt; counts(&root) == (1, true, 1));
 }
 

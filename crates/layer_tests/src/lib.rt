@@ -9,7 +9,7 @@
 //! | `votes`, `digests` | `reliable_bcast` |
 //! | `columns` | `echo_bcast` |
 //! | `bits` | `binary_consensus` |
-//! | `alone` | the services: `binary_consensus`, `multivalued`, `vector_consensus` and `atomic_bcast` |
+//! | `alone` | the services: `binary_consensus`, `multivalued`, `vector_consensus`, `atomic_bcast` and `direct_atomic` |
 //! | `trees` | `instance_tree` |
 //! | `lanes` | `vote_lanes` |
 //! | `drops` | `ritas_core` |
