@@ -1,5 +1,5 @@
 //! Sessions that configurations describe.
-ghost use Rattle.std.specs.Prelude.{◌≡◌, ◌<◌, [], true, false, map, IfOk, IfErr, OnErr};
+ghost use Rattle.std.specs.Prelude.{◌≡◌, ◌≢◌, ◌<◌, [], true, false, map, IfOk, IfErr, OnErr};
 ghost use Rattle.schedule_replay.specs.Layers.{setting_of};
 ghost use Rattle.schedule_replay.specs.Replay.{CountsIf};
 ghost use Rattle.cluster_config.specs.Cluster.{cluster_text};
@@ -55,7 +55,8 @@ fn cluster_header(config: &ClusterConfig) -> Header
     }
 }
 
-// A request as an item with which serving begins. The one error is want of memory.
+// A request as an item with which serving begins. The one error is want of memory: where memory is
+// ample it doesn't come, as `serves_a_cluster` of `stack_tests` shows.
 fn first_item(alloc: Global, request: &Request) -> Result<LinkItem, Mem>
     ensures item { IfOk result (λ item. item ≡ first_item request.now) }
 {
@@ -72,9 +73,11 @@ fn first_item(alloc: Global, request: &Request) -> Result<LinkItem, Mem>
     })
 }
 
-// The items with which serving begins. The one error is want of memory.
+// The items with which serving begins. The one error is want of memory, which comes only where
+// there is a request.
 fn first_items(alloc: Global, requests: &Requests) -> Result<Vec<LinkItem>, Mem>
     ensures items { IfOk result (λ items. items.items ≡ map first_item requests.now) }
+    ensures memory { OnErr result (requests.now ≢ []) }
 {
     let mut items = Vec::new(alloc);
     for at in 0..requests.len() {
