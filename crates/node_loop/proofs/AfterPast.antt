@@ -175,6 +175,7 @@ module _ (tells : Tells) (base : Outs) (taken : List ℕ) (count : ℕ) (past : 
     serves_with now end until limit served = record {
       groups = served.groups;
       are = served.are;
+      queries = served.queries;
       so = ends_with now.outs end _ _ _ _ _ _ (earlier_then now.outs served.groups) served.so;
       kept = kept_with now served.groups end served.kept;
     }
@@ -193,6 +194,7 @@ module _ {S E C : Type 0} (m : Meaning S E C KeyRow) (w : Setting) (past : List 
   again_short here now until limit stood = record {
     groups = [];
     are = tt;
+    queries = tt;
     so = record {
       taken = λ t. none_written now.outs.taken (events_text past);
       told = λ t. back_none now.outs.told [];
@@ -214,6 +216,7 @@ module _ {S E C : Type 0} (m : Meaning S E C KeyRow) (w : Setting) (past : List 
   again_unwritten here base now until limit stand stood front rises later told faults_are = record {
     groups = [];
     are = tt;
+    queries = tt;
     so = (
       record {
         taken = front;

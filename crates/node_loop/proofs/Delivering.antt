@@ -28,6 +28,7 @@ use Rattle.node_loop.specs.Groups.{FitsPeers, acts_by, acts_each}
 use Rattle.node_loop.specs.Keeping.{kept_of}
 use Rattle.node_loop.specs.Outs.{events_text, Outs, Tells, Agrees, StopsPartway, HasCauses, InOrder}
 use Rattle.node_loop.specs.Ends.{IsFaultOfLink, fault_in, IsEndOf}
+use Rattle.node_loop.specs.Queries.{QueriesFit}
 use Rattle.node_loop.specs.Running.{Running, Gathered, IsOfTape}
 use Rattle.node_loop.specs.ServedKept.{ServesKept, newest_kept}
 use Rattle.node_loop.specs.Serving.{Serving, Round}
@@ -123,6 +124,9 @@ module _ {S E C : Type 0} (m : Meaning S E C KeyRow) (w : Setting) (past : List 
   are : AreGroups w past until limit start groups
   are = are_groups m w past numbers tells base until limit start house group o taken left many run within
 
+  fits : QueriesFit w past start groups
+  fits = (run.fit, run.queries)
+
   all_events : es ++ s₀.events ≡ s₁.events
   all_events = sym (events_parts w past s₀ run.newest)
 
@@ -130,7 +134,7 @@ module _ {S E C : Type 0} (m : Meaning S E C KeyRow) (w : Setting) (past : List 
   pub tape_fails : (now : Moment) (fault : Fault) (end : ServeEnd) → IsOfTape fault → StopsPartway tells base now.outs fault s₀.events (es ++ s₀.events) old new
       → now.stands (kept_of w past s₀.events) → IsEndOf fault end → EndedAt now end
   tape_fails now fault end own stops stands is =
-      at_fault m w past numbers tells base until limit start groups now house.replicas.items fault end are is
+      at_fault m w past numbers tells base until limit start groups now house.replicas.items fault end are fits is
       (subst (λ (es : List Event). StopsPartway tells base now.outs fault s₀.events es old new) all_events stops) (if_failed fault _ run.under.stands.here)
       (left_tape now (far_at now.outs) (kept_of w past s₁.events) (newest_kept w past start groups) (kept_of w past s₀.events) fault own stands)
 
@@ -146,7 +150,7 @@ module _ {S E C : Type 0} (m : Meaning S E C KeyRow) (w : Setting) (past : List 
   pub archive_fails : (now : Moment) (events : List Event) (x : ArchiveFault) (fault : Fault) (end : ServeEnd) → events ≡ group.kept.items → fault ≡ fault_in x → Agrees tells base now.outs s₁.events old
       → now.fails x (reverse events) (kept_of w past s₀.events) → IsEndOf fault end → EndedAt now end
   archive_fails now events x fault end listed same agrees fails is =
-      at_fault m w past numbers tells base until limit start groups now house.replicas.items (fault_in x) end are (subst (λ (f : Fault). IsEndOf f end) same is)
+      at_fault m w past numbers tells base until limit start groups now house.replicas.items (fault_in x) end are fits (subst (λ (f : Fault). IsEndOf f end) same is)
       (record {
         taken = λ t. all_written base.taken now.outs.taken (events_text s₁.events) (agrees.taken t);
         told = λ t. rw (agrees.told t) (back_none (old ++ base.told) new);
@@ -179,6 +183,7 @@ module _ {S E C : Type 0} (m : Meaning S E C KeyRow) (w : Setting) (past : List 
     group_goes outputs same did = record {
       groups = groups;
       are = are;
+      queries = fits;
       over = over;
       rest = run.rest;
       count = run.items;
@@ -192,7 +197,7 @@ module _ {S E C : Type 0} (m : Meaning S E C KeyRow) (w : Setting) (past : List 
     pub group_stops : (outputs : List Output) (x : LinkFault) (fault : Fault) (end : ServeEnd) → outputs ≡ group.outputs.items → IsFaultOfLink x fault
         → LinkDid tells.link (acts_each (acts_by s₁.peers.keeping) outputs) outs.told told outs.link_faults count (Err x) → IsEndOf fault end → EndedAt then end
     group_stops outputs x fault end same why did is =
-        at_fault m w past numbers tells base until limit start groups then house.replicas.items fault end are is
+        at_fault m w past numbers tells base until limit start groups then house.replicas.items fault end are fits is
         (link_stops tells base outs s₀.events s₁.events old [] new new told count x fault why (sym (append-nil new)) agrees
         (subst (λ (acts : List LinkAct). LinkDid tells.link acts outs.told told outs.link_faults count (Err x)) (ap (acts_each (acts_by s₁.peers.keeping)) same ∙ run.under.holds.acts) did))
         (if_failed fault _ run.under.stands.here)

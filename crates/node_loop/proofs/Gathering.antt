@@ -26,6 +26,7 @@ use Rattle.node_loop.specs.Ends.{IsEndOf}
 use Rattle.node_loop.specs.Groups.{IsEmpty, MayGrow, IsGroupEnough, GroupHolds, JoinsGroup, Under}
 use Rattle.node_loop.specs.Keeping.{kept_of}
 use Rattle.node_loop.specs.Outs.{events_text, Outs, Tells, Agrees, InOrder, StopsPartway, IfFailed}
+use Rattle.node_loop.specs.Queries.{RoundFits, QueriesFit}
 use Rattle.node_loop.specs.Running.{Running, Gathered, IsNext}
 use Rattle.node_loop.specs.Served.{AreHere, EndsSo, Serves}
 use Rattle.node_loop.specs.ServedKept.{EndsKept, ServesKept, earlier_kept, newest_kept}
@@ -77,13 +78,14 @@ module _ {S E C : Type 0} (m : Meaning S E C KeyRow) (w : Setting) (past : List 
   -- ---- at a fault
 
   -- it broke in the newest group
-  pub at_fault : (groups : List (List Round)) (now : Moment) (here : List (Replica S E C)) (fault : Fault) (end : ServeEnd) → AreGroups w past until limit start groups → IsEndOf fault end
+  pub at_fault : (groups : List (List Round)) (now : Moment) (here : List (Replica S E C)) (fault : Fault) (end : ServeEnd) → AreGroups w past until limit start groups → QueriesFit w past start groups → IsEndOf fault end
       → StopsPartway tells base now.outs fault (before groups) (after groups).events (sooner w past start groups) (newest_calls w past start groups)
       → IfFailed fault (AreHere m w (so_far past (after groups)) numbers here)
       → ArchiveLeftAt now (far_at now.outs groups) (kept_of w past (after groups).events) (newest_kept w past start groups) (earlier_kept w past start groups) fault → EndedAt here now end
-  at_fault groups now here fault end are is stops stand left = record {
+  at_fault groups now here fault end are fits is stops stand left = record {
     groups = groups;
     are = are;
+    queries = fits;
     so = ends_so m w past numbers here tells base now.outs fault end (before groups) (after groups) (sooner w past start groups) (newest_calls w past start groups)
         (wants w past until limit (after groups)) is stops stand;
     kept = left_end now (far_at now.outs groups) (kept_of w past (after groups).events) (newest_kept w past start groups) (earlier_kept w past start groups) fault end is left;
@@ -91,13 +93,14 @@ module _ {S E C : Type 0} (m : Meaning S E C KeyRow) (w : Setting) (past : List 
 
   -- between two groups
   pub breaks_between : (groups : List (List Round)) (now : Moment) (here : List (Replica S E C)) (fault : Fault) (end : ServeEnd) → AreGroups w past until limit start groups
+      → QueriesFit w past start groups
       → GaveNone tells base now.outs fault (after groups).events (told_from w past start groups) → now.stands (kept_of w past (after groups).events)
       → IfFailed fault (AreHere m w (so_far past (after groups)) numbers here) → IsEndOf fault end → EndedAt here now end
-  breaks_between groups now here fault end are gave stood stand is =
+  breaks_between groups now here fault end are fits gave stood stand is =
       let s = after groups in
       let new = newest_calls w past start groups in
       let old = sooner w past start groups in
-      at_fault groups now here fault end are is
+      at_fault groups now here fault end are fits is
       (record {
         taken = λ t. all_written base.taken now.outs.taken (events_text s.events) (gave.written t);
         told = λ t. back_all (old ++ base.told) now.outs.told new
@@ -112,15 +115,15 @@ module _ {S E C : Type 0} (m : Meaning S E C KeyRow) (w : Setting) (past : List 
 
   -- in a group of which nothing was delivered
   pub breaks_within : (newest : List Round) (older : List (List Round)) (now : Moment) (here : List (Replica S E C)) (fault : Fault) (end : ServeEnd)
-      → AreGroups w past until limit start (newest ∷ older)
+      → AreGroups w past until limit start (newest ∷ older) → QueriesFit w past start (newest ∷ older)
       → GaveNone tells base now.outs fault (after older).events (sooner w past start (newest ∷ older)) → now.stands (kept_of w past (after older).events)
       → IfFailed fault (AreHere m w (so_far past (after (newest ∷ older))) numbers here) → IsEndOf fault end → EndedAt here now end
-  breaks_within newest older now here fault end are gave stood stand is =
+  breaks_within newest older now here fault end are fits gave stood stand is =
       let s₀ = after older in
       let groups = newest ∷ older in
       let es = events_from w past s₀ newest in
       let old = sooner w past start groups in
-      at_fault groups now here fault end are is
+      at_fault groups now here fault end are fits is
       (record {
         taken = λ t. subst (λ (l : List ℕ). TookFront base.taken now.outs.taken l) (sym (ap events_text (events_parts w past s₀ newest) ∙ text_parts es s₀.events))
             (front_more base.taken now.outs.taken (events_text s₀.events) (events_text es) (all_written base.taken now.outs.taken (events_text s₀.events) (gave.written t)));
@@ -145,17 +148,20 @@ module _ {S E C : Type 0} (m : Meaning S E C KeyRow) (w : Setting) (past : List 
     under_none group empty = record { stands = run.stands; holds = holds_none w past now_at group empty }
 
     pub gathers_first : (new : House S E C) (group : Group) (now : Moment) (more : ℕ) (rest : List LinkItem) (x : Round) → IsWanted (wants w past until limit now_at) x
+        → RoundFits w (so_far past now_at) x
         → (round_does w past x now_at).left ≡ rest → more ≡ (round_does w past x now_at).taken
         → Agrees tells base now.outs now_at.events (given_in (x ∷ []) ++ told_from w past start run.groups) → now.stands (kept_of w past now_at.events)
         → Under m w past numbers now_at (x ∷ []) new group → Gathered m w past numbers new group tells base now more until limit start rest 1
-    gathers_first new group now more rest x want is_left is_taken agrees stood under = record {
+    gathers_first new group now more rest x want fits is_left is_taken agrees stood under = record {
       older = run.groups;
       newest = x ∷ [];
       some = λ no. absurd (cc);
       count = refl;
       before = run.are;
+      queries = run.queries;
       over = run.over;
       wanted = (want, tt);
+      fit = (fits, tt);
       rest = is_left;
       items = is_taken;
       under = under;
@@ -165,9 +171,10 @@ module _ {S E C : Type 0} (m : Meaning S E C KeyRow) (w : Setting) (past : List 
 
     -- memory ran out at it
     pub first_short : (here : List (Replica S E C)) (now : Moment) (x : Round) → IsWanted (wants w past until limit now_at) x
+        → RoundFits w (so_far past now_at) x
         → Agrees tells base now.outs now_at.events (given_in (x ∷ []) ++ told_from w past start run.groups) → now.stands (kept_of w past now_at.events) → EndedAt here now ends.Mem
-    first_short here now x want agrees stood =
-        breaks_within (x ∷ []) run.groups now here faults.Mem ends.Mem (one_alone w past until limit now_at x want, run.over, run.are)
+    first_short here now x want fits agrees stood =
+        breaks_within (x ∷ []) run.groups now here faults.Mem ends.Mem (one_alone w past until limit now_at x want, run.over, run.are) ((fits, tt), run.queries)
         (memory_short tells base now.outs now_at.events (given_in (x ∷ []) ++ told_from w past start run.groups) agrees) stood tt refl
 
     -- one of the first items
@@ -185,8 +192,10 @@ module _ {S E C : Type 0} (m : Meaning S E C KeyRow) (w : Setting) (past : List 
         some = λ no. absurd (cc);
         count = refl;
         before = run.are;
+        queries = run.queries;
         over = run.over;
         wanted = (first_wanted item rest is, tt);
+        fit = (tt, tt);
         rest = ap behind_first (run.rest ∙ is);
         items = run.count;
         under = under;
@@ -223,8 +232,10 @@ module _ {S E C : Type 0} (m : Meaning S E C KeyRow) (w : Setting) (past : List 
         some = run.some;
         count = run.count;
         before = run.before;
+        queries = run.queries;
         over = run.over;
         wanted = run.wanted;
+        fit = run.fit;
         rest = run.rest;
         items = run.items;
         under = run.under;
@@ -257,17 +268,20 @@ module _ {S E C : Type 0} (m : Meaning S E C KeyRow) (w : Setting) (past : List 
 
     -- a round more
     pub gathers_more : (new : House S E C) (more_group : Group) (now : Moment) (more : ℕ) (rest : List LinkItem) (x : Round) → IsWanted (wants w past until limit under_way) x
+        → RoundFits w (so_far past under_way) x
         → (round_does w past x under_way).left ≡ rest → more ≡ (round_does w past x under_way).taken
         → Agrees tells base now.outs before_it.events (calls (x ∷ run.newest)) → now.stands (kept_of w past before_it.events)
         → Under m w past numbers before_it (x ∷ run.newest) new more_group → Gathered m w past numbers new more_group tells base now more until limit start rest (many + 1)
-    gathers_more new more_group now more rest x want is_left is_taken agrees stood under = record {
+    gathers_more new more_group now more rest x want fits is_left is_taken agrees stood under = record {
       older = run.older;
       newest = x ∷ run.newest;
       some = λ no. absurd (cc);
       count = omega (arith, run.count);
       before = run.before;
+      queries = run.queries;
       over = run.over;
       wanted = (want, run.wanted);
+      fit = (fits, run.fit);
       rest = is_left;
       items = is_taken;
       under = under;
@@ -277,8 +291,9 @@ module _ {S E C : Type 0} (m : Meaning S E C KeyRow) (w : Setting) (past : List 
 
     -- memory ran out at it
     pub more_short : (here : List (Replica S E C)) (now : Moment) (x : Round) → many < most_rounds → MayJoin x → MayGrow group → IsWanted (wants w past until limit under_way) x
+        → RoundFits w (so_far past under_way) x
         → Agrees tells base now.outs before_it.events (calls (x ∷ run.newest)) → now.stands (kept_of w past before_it.events) → EndedAt here now ends.Mem
-    more_short here now x lt may goes want agrees stood =
+    more_short here now x lt may goes want fits agrees stood =
         breaks_within (x ∷ run.newest) run.older now here faults.Mem ends.Mem (
           record {
             some = λ no. absurd (cc);
@@ -288,7 +303,7 @@ module _ {S E C : Type 0} (m : Meaning S E C KeyRow) (w : Setting) (past : List 
           },
           run.over,
           run.before,
-        )
+        ) ((fits, run.fit), run.queries)
         (memory_short tells base now.outs before_it.events (calls (x ∷ run.newest)) agrees) stood tt refl
 
     -- with a turn, for which the link gives nothing
@@ -307,22 +322,23 @@ module _ {S E C : Type 0} (m : Meaning S E C KeyRow) (w : Setting) (past : List 
     pub more_fails : (now : Moment) (fault : Fault) (end : ServeEnd) → many ≤ most_rounds → GaveNone tells base now.outs fault before_it.events (calls run.newest)
         → now.stands (kept_of w past before_it.events) → IsEndOf fault end → EndedAt old.replicas.items now end
     more_fails now fault end le gave stood is =
-        breaks_within run.newest run.older now old.replicas.items fault end (are_groups le) gave stood (if_failed fault _ run.under.stands.here) is
+        breaks_within run.newest run.older now old.replicas.items fault end (are_groups le) (run.fit, run.queries) gave stood (if_failed fault _ run.under.stands.here) is
 
   -- ---- it begins
 
   pub runs_first : (house : House S E C) (o : Moment) → start.taken ≡ 0 → HouseStands m w (so_far past start) numbers house start.waiting start.peers
       → Agrees tells base o.outs start.events [] → o.stands (kept_of w past start.events) → Running m w past numbers house tells base o 0 until limit start start.left
-  runs_first house o none stands agrees stood = record { groups = []; are = tt; over = tt; rest = refl; count = sym none; stands = stands; agrees = agrees; kept = stood }
+  runs_first house o none stands agrees stood = record { groups = []; are = tt; queries = tt; over = tt; rest = refl; count = sym none; stands = stands; agrees = agrees; kept = stood }
 
   -- ---- the ends
 
   -- all of the groups was delivered
   serves_whole : (groups : List (List Round)) (here : List (Replica S E C)) (now : Moment) (end : ServeEnd) → AreGroups w past until limit start groups
+      → QueriesFit w past start groups
       → EndsKept m w past numbers here tells base now.outs end (before groups) (after groups) (sooner w past start groups) (newest_calls w past start groups)
       (wants w past until limit (after groups))
       → ((far : Reach) (group older : List Event) → KeptAt now far (kept_of w past (after groups).events) group older end) → EndedAt here now end
-  serves_whole groups here now end are so kept = record { groups = groups; are = are; so = so; kept = kept _ _ _ }
+  serves_whole groups here now end are fits so kept = record { groups = groups; are = are; queries = fits; so = so; kept = kept _ _ _ }
 
   module _ (house : House S E C) (o : Moment) (taken : ℕ) (run : Running m w past numbers house tells base o taken until limit start []) where
     abbrev last_at : Serving
@@ -341,18 +357,18 @@ module _ {S E C : Type 0} (m : Meaning S E C KeyRow) (w : Setting) (past : List 
 
     pub finishes : IsNext last_want next.Finish → EndedAt house.replicas.items o ends.Done
     finishes is =
-        serves_whole run.groups house.replicas.items o ends.Done run.are
+        serves_whole run.groups house.replicas.items o ends.Done run.are run.queries
         (record { why = last_now ∙ next_finish last_want is; agrees = in_parts o.outs [] run.agrees; stand = run.stands.here }) (λ far group older. run.kept)
 
     pub halts : IsNext last_want next.Halt → EndedAt house.replicas.items o ends.Limit
     halts is =
-        serves_whole run.groups house.replicas.items o ends.Limit run.are
+        serves_whole run.groups house.replicas.items o ends.Limit run.are run.queries
         (record { why = last_now ∙ next_halt last_want is; agrees = in_parts o.outs [] run.agrees; stand = run.stands.here }) (λ far group older. run.kept)
 
     pub link_ends : (now : Moment) (item : LinkItem) → IsNext last_want next.Ask → item ≡ items.End → Agrees tells base now.outs last_at.events (Gives item ∷ told_from w past start run.groups)
         → now.stands (kept_of w past last_at.events) → EndedAt house.replicas.items now ends.End
     link_ends now item is is_end agrees stood =
-        serves_whole run.groups house.replicas.items now ends.End run.are
+        serves_whole run.groups house.replicas.items now ends.End run.are run.queries
         (record {
           why = last_now ∙ next_ask last_want is;
           agrees = in_parts now.outs (Gives items.End ∷ []) (subst (λ (x : LinkItem). Agrees tells base now.outs last_at.events (Gives x ∷ told_from w past start run.groups)) is_end agrees);
@@ -363,7 +379,7 @@ module _ {S E C : Type 0} (m : Meaning S E C KeyRow) (w : Setting) (past : List 
     pub link_fails : (now : Moment) (fault : Fault) (end : ServeEnd) → GaveNone tells base now.outs fault last_at.events (told_from w past start run.groups)
         → now.stands (kept_of w past last_at.events) → IsEndOf fault end → EndedAt house.replicas.items now end
     link_fails now fault end gave stood is =
-        breaks_between run.groups now house.replicas.items fault end run.are gave stood (if_failed fault _ run.stands.here) is
+        breaks_between run.groups now house.replicas.items fault end run.are run.queries gave stood (if_failed fault _ run.stands.here) is
 
 -- it ended for want of memory before the first round
 pub none_served : {S E C : Type 0} (m : Meaning S E C KeyRow) (w : Setting) (past : List Event) (numbers : List ℕ) (here : List (Replica S E C)) (tells : Tells) (base : Outs) (until limit : ℕ) (first : List LinkItem)
@@ -371,6 +387,7 @@ pub none_served : {S E C : Type 0} (m : Meaning S E C KeyRow) (w : Setting) (pas
 none_served m w past numbers here tells base until limit first = record {
   groups = [];
   are = tt;
+  queries = tt;
   so = record {
     taken = λ t. none_written base.taken [];
     told = λ t. back_none base.told [];
@@ -385,7 +402,7 @@ none_served m w past numbers here tells base until limit first = record {
 pub serves_plain : {S E C : Type 0} (m : Meaning S E C KeyRow) (w : Setting) (past : List Event) (numbers : List ℕ) (here : List (Replica S E C)) (tells : Tells) (base : Outs) (now : Moment) (end : ServeEnd) (until limit : ℕ) (first : List LinkItem)
     → ((x : ArchiveFault) (group older : List Event) → now.fails x group older → ⊥) → ServesKept m w past numbers here tells base now end until limit (begin first)
     → Serves m w past numbers here tells base now.outs end until limit first
-serves_plain m w past numbers here tells base now end until limit first never served = record { groups = served.groups; are = served.are; so = by_end end served.so served.kept }
+serves_plain m w past numbers here tells base now end until limit first never served = record { groups = served.groups; are = served.are; queries = served.queries; so = by_end end served.so served.kept }
   where
     s : Serving
     s = after_groups w past (begin first) served.groups

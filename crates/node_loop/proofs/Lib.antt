@@ -3,6 +3,8 @@ pub mod Grown
 pub mod OneRun
 pub mod FramesSent
 pub mod Logs
+pub mod Querying
+pub mod Replying
 pub mod TrueReplies
 pub mod PieceReading
 pub mod Stepping

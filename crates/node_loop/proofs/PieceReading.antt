@@ -1,24 +1,30 @@
 -- A piece of a served log is read as one of that log.
 use Rattle.std.proofs.Common.{◌≡◌, ℕ, zero, suc, ◌-◌, ◌<◌, ◌≤◌, ◌⊎◌, nat_le, Bool, true, false, List, [], ◌∷◌, ◌++◌, length, drop, reverse, refl, sym, subst, inl, inr, arith, length-append, length-drop, if◌then◌else◌}
+use Rattle.std.specs.List.{AllByRecursion}
 use Rattle.std.proofs.lemmas.Bool.{leb-true}
 use Rattle.std.proofs.lemmas.List.{reverse-append, length-reverse}
 use Rattle.ritas_base.specs.declared.event.Event.{Event}
+use Rattle.outside.specs.Links.{replies_in}
 use Rattle.layer_api.specs.Broadcast.{BroadcastRules}
-use Rattle.layer_api.specs.Service.{ServiceRules, IsPart}
+use Rattle.layer_api.specs.Service.{ServiceRules}
+use Rattle.command_log.specs.Index.{HaveFourBytes}
 use Rattle.command_log.specs.Rows.{Row, HasRow}
-use Rattle.command_log.specs.Pieces.{Piece, row_size, rows_bytes, piece_front, most_rows, longest_log_piece, rows_within, piece_of_log, IsOfLog}
+use Rattle.command_log.specs.Pieces.{Piece, row_size, rows_bytes, piece_front, most_rows, longest_log_piece, rows_within, piece_of_log, piece_bytes, IsOfLog}
 use Rattle.observer.specs.Reading.{IsPieceRow, ArePieceRows, IsPiece}
 use Rattle.observer.specs.Laws.{PieceIsOfLog, PieceIsRead}
-use Rattle.world_model.specs.EveryWorld.{LogsGrow}
+use Rattle.observer.proofs.Parts.{part_trans}
+use Rattle.world_model.specs.World.{Setting}
+use Rattle.world_model.specs.EveryWorld.{IsWorld, LogsGrow}
 use Rattle.world_model.specs.Agree.{rows_at}
 use Rattle.world_model.specs.RowsFit.{RowsAreOfCommands, RowsFit}
-use Rattle.node_loop.specs.PieceLaws.{HaveFourBytes, PiecesAreOfLogs}
+use Rattle.node_loop.specs.PieceLaws.{IsPieceRead}
+use Rattle.node_loop.specs.Queries.{RoundFits, RoundsFit, QueriesFit}
+use Rattle.node_loop.specs.Serving.{Serving, so_far, Round}
+use Rattle.node_loop.specs.Told.{after_groups, told_from}
+use Rattle.node_loop.proofs.Querying.{fits_asked}
+use Rattle.node_loop.proofs.Replying.{HoldsOfReplies, AreSuch, AreAllSuch, replies_hold}
 
 -- ---- rows of a list
-
-has_more : (more xs : List Row) (r : Row) → HasRow xs r → HasRow (more ++ xs) r
-has_more [] xs r here = here
-has_more (x ∷ more) xs r here = inr (has_more more xs r here)
 
 has_either : (xs ys : List Row) (r : Row) → HasRow (xs ++ ys) r → HasRow xs r ⊎ HasRow ys r
 has_either [] ys r here = inr here
@@ -95,12 +101,43 @@ is_piece n log position of_commands four small =
       short = omega (arith, size);
     }
 
-pub pieces_of_logs : (service : ServiceRules) (other : BroadcastRules) → LogsGrow service other → RowsFit service other → PieceIsOfLog → PieceIsRead
-    → PiecesAreOfLogs service other
-pieces_of_logs service other grow fit of_log read w es x given is correct small four =
-    let log = rows_at w given.moment x.at in
-    let p = piece_of_log log given.position in
-    let part : IsPart log (rows_at w es x.at) = subst (λ (l : List Event). IsPart log (rows_at w l x.at)) given.earlier.1 (grow w given.earlier.0 given.moment x.at is) in
-    let fours : HaveFourBytes log = λ r here. four r (subst (λ (l : List Row). HasRow l r) part.1 (has_more part.0 log r here)) in
-    let reads = read w.numbers.n x.bytes p (record { piece = is_piece w.numbers.n log given.position (fit w given.moment x.at is correct) fours small; text = given.bytes }) in
-    (reads.0, record { moment = log; earlier = part; rows = subst (λ (q : Piece). IsOfLog log q) (sym reads.1) (of_log log given.position) })
+-- ---- the replies
+
+module _ (service : ServiceRules) (other : BroadcastRules) (grow : LogsGrow service other) (fit : RowsFit service other) (of_log : PieceIsOfLog) (read : PieceIsRead)
+    (w : Setting) (world : IsWorld service other w) where
+  piece_read : (es : List Event) (at to position : ℕ) → w.is_correct at ≡ true → (position < 4294967296) × HaveFourBytes (rows_at w es at)
+      → IsPieceRead w es (record { at = at; to = to; bytes = piece_bytes (piece_of_log (rows_at w es at) position) })
+  piece_read es at to position correct fits = λ form.
+      let log = rows_at w es at in
+      let p = piece_of_log log position in
+      let reads = read w.numbers.n (piece_bytes p) p (record { piece = is_piece w.numbers.n log position (fit w es at world correct) fits.1 fits.0; text = refl }) in
+      (reads.0, record { moment = log; earlier = ([], refl); rows = subst (λ (q : Piece). IsOfLog log q) (sym reads.1) (of_log log position) })
+
+  read_ones : HoldsOfReplies w (RoundFits w) (IsPieceRead w)
+  read_ones = record {
+    position = λ es at to client request position is. λ form. absurd (cc);
+    refusal = λ es at to client request code. λ form. absurd (cc);
+    piece = λ es at to bytes position fits correct is.
+        piece_read es at to position correct (fits_asked w es at bytes position is fits correct);
+    stays = λ e es x holds. λ form.
+        let was = holds form in (
+          was.0,
+          record {
+            moment = was.1.moment;
+            earlier = part_trans was.1.moment (rows_at w es x.at) (rows_at w (e ∷ es) x.at) was.1.earlier (grow w (e ∷ []) es x.at world);
+            rows = was.1.rows;
+          },
+        );
+  }
+
+  fit_rounds : (past : List Event) (start : Serving) (rounds : List Round) → RoundsFit w past start rounds → AreSuch w (RoundFits w) past start rounds
+  fit_rounds past start [] fits = tt
+  fit_rounds past start (x ∷ rounds) fits = (fits.0, fit_rounds past start rounds fits.1)
+
+  fit_groups : (past : List Event) (start : Serving) (groups : List (List Round)) → QueriesFit w past start groups → AreAllSuch w (RoundFits w) past start groups
+  fit_groups past start [] fits = tt
+  fit_groups past start (group ∷ older) fits = (fit_rounds past (after_groups w past start older) group fits.0, fit_groups past start older fits.1)
+
+  pub pieces_of_logs : (past : List Event) (start : Serving) (groups : List (List Round)) → QueriesFit w past start groups
+      → AllByRecursion (IsPieceRead w (so_far past (after_groups w past start groups))) (replies_in (told_from w past start groups))
+  pieces_of_logs past start groups fits = replies_hold w (RoundFits w) (IsPieceRead w) read_ones past start groups (fit_groups past start groups fits)

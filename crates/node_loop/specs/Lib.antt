@@ -8,6 +8,7 @@ pub mod Ends
 pub mod Outs
 pub mod Pieces
 pub mod Told
+pub mod Queries
 pub mod ToldRows
 pub mod Served
 pub mod PeersStanding

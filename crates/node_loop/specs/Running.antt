@@ -11,6 +11,7 @@ use Rattle.node_loop.specs.declared.house.House.{House}
 use Rattle.node_loop.specs.declared.rounds.Next.{Next}
 use Rattle.node_loop.specs.declared.rounds.Next.TheVariants as next
 use Rattle.node_loop.specs.Serving.{Serving, so_far, Want, Finishes, Turns, Halts, Reminds, Asks, Round, after_from, AreWantedFrom}
+use Rattle.node_loop.specs.Queries.{RoundsFit, QueriesFit}
 use Rattle.node_loop.specs.Told.{AreGroups, IsNewestOver, after_groups, given_in, told_from}
 use Rattle.node_loop.specs.Outs.{Outs, Tells, Agrees}
 use Rattle.node_loop.specs.Archives.{Moment}
@@ -19,11 +20,13 @@ use Rattle.node_loop.specs.Groups.{Under}
 use Rattle.node_loop.specs.Keeping.{kept_of}
 use Rattle.node_loop.specs.Standing.{HouseStands}
 
--- it serves: these are the groups so far, of its first items these are left, and the archive stands for what is kept
+-- it serves: these are the groups so far, whose queries fit, of its first items these are left, and
+-- the archive stands for what is kept
 pub record Running {S E C : Type 0} (m : Meaning S E C KeyRow) (w : Setting) (past : List Event) (numbers : List ℕ) (house : House S E C)
     (tells : Tells) (base : Outs) (now : Moment) (taken : ℕ) (until limit : ℕ) (start : Serving) (left : List LinkItem) : Type 0 where
   pub groups : List (List Round)
   pub are : AreGroups w past until limit start groups
+  pub queries : QueriesFit w past start groups
   pub over : IsNewestOver w past until limit start groups
   pub rest : (after_groups w past start groups).left ≡ left
   pub count : taken ≡ (after_groups w past start groups).taken
@@ -31,8 +34,9 @@ pub record Running {S E C : Type 0} (m : Meaning S E C KeyRow) (w : Setting) (pa
   pub agrees : Agrees tells base now.outs (after_groups w past start groups).events (told_from w past start groups)
   pub kept : now.stands (kept_of w past (after_groups w past start groups).events)
 
--- A group is under way, behind older ones: each of its rounds is what the rules said, the house stands after them, and the group holds what came of
--- them. It has so many. Nothing of it was delivered yet; the link gave its items.
+-- A group is under way, behind older ones: each of its rounds is what the rules said, and fits, the
+-- house stands after them, and the group holds what came of them. It has so many. Nothing of it was
+-- delivered yet; the link gave its items.
 pub record Gathered {S E C : Type 0} (m : Meaning S E C KeyRow) (w : Setting) (past : List Event) (numbers : List ℕ) (house : House S E C) (group : Group)
     (tells : Tells) (base : Outs) (now : Moment) (taken : ℕ) (until limit : ℕ) (start : Serving) (left : List LinkItem) (many : ℕ) : Type 0 where
   pub older : List (List Round)
@@ -40,8 +44,10 @@ pub record Gathered {S E C : Type 0} (m : Meaning S E C KeyRow) (w : Setting) (p
   pub some : newest ≡ [] → ⊥
   pub count : length newest ≡ many
   pub before : AreGroups w past until limit start older
+  pub queries : QueriesFit w past start older
   pub over : IsNewestOver w past until limit start older
   pub wanted : AreWantedFrom w past until limit (after_groups w past start older) newest
+  pub fit : RoundsFit w past (after_groups w past start older) newest
   pub rest : (after_from w past (after_groups w past start older) newest).left ≡ left
   pub items : taken ≡ (after_from w past (after_groups w past start older) newest).taken
   pub under : Under m w past numbers (after_groups w past start older) newest house group

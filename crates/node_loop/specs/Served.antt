@@ -17,6 +17,7 @@ use Rattle.node_loop.specs.declared.end.ServeEnd.TheVariants as ends
 use Rattle.node_loop.specs.Serving.{Serving, begin, so_far, Want, Finishes, Halts, Asks, wants, Round}
 use Rattle.node_loop.specs.Told.{AreGroups, after_groups, before_newest, newest_calls, sooner}
 use Rattle.node_loop.specs.Outs.{Outs, Tells, Agrees, StopsPartway}
+use Rattle.node_loop.specs.Queries.{QueriesFit}
 
 -- The replicas of a world that are here are its correct ones: replica k of the list is that of the k-th number, as it stands after these
 -- events, and none is stopped.
@@ -63,11 +64,13 @@ EndsSo m w past numbers here tells base now ends.Mem earlier s sooner news rule 
 EndsSo m w past numbers here tells base now ends.DiskFault earlier s sooner news rule = ⊥
 EndsSo m w past numbers here tells base now (ends.JournalFull x) earlier s sooner news rule = ⊥
 
--- There are groups of rounds, each round what the rules said, after which serving ended so. The items that these took are those that the link gave,
--- before its end: where it tells, each call but those of the newest group is told.
+-- There are groups of rounds, each round what the rules said, after which serving ended so. The
+-- items that these took are those that the link gave, before its end: where it tells, each call but
+-- those of the newest group is told. Each query of them, and the log that it found, fits a piece.
 pub record Serves {S E C : Type 0} (m : Meaning S E C KeyRow) (w : Setting) (past : List Event) (numbers : List ℕ) (here : List (Replica S E C))
     (tells : Tells) (base now : Outs) (end : ServeEnd) (until limit : ℕ) (first : List LinkItem) : Type 0 where
   pub groups : List (List Round)
   pub are : AreGroups w past until limit (begin first) groups
+  pub queries : QueriesFit w past (begin first) groups
   pub so : EndsSo m w past numbers here tells base now end (before_newest w past (begin first) groups).events (after_groups w past (begin first) groups)
       (sooner w past (begin first) groups) (newest_calls w past (begin first) groups) (wants w past until limit (after_groups w past (begin first) groups))

@@ -12,6 +12,7 @@ use Rattle.node_loop.specs.declared.end.ServeEnd.TheVariants as ends
 use Rattle.node_loop.specs.Archives.{Moment, KeptAt, reach}
 use Rattle.node_loop.specs.Keeping.{kept_of}
 use Rattle.node_loop.specs.Outs.{Outs, Tells, StopsPartway}
+use Rattle.node_loop.specs.Queries.{QueriesFit}
 use Rattle.node_loop.specs.Served.{AreHere, EndsSo}
 use Rattle.node_loop.specs.Serving.{Serving, so_far, Want, wants, Round}
 use Rattle.node_loop.specs.Told.{AreGroups, after_groups, newest_calls, sooner, before_newest, newest_events}
@@ -38,12 +39,14 @@ newest_kept w past start groups = kept_of w (so_far past (before_newest w past s
 abbrev pub earlier_kept : Setting → List Event → Serving → List (List Round) → List Event
 earlier_kept w past start groups = kept_of w past (before_newest w past start groups).events
 
--- of serving that begins so there are groups of rounds, each round what the rules said, after which it ended so, and the archive stands for what is kept
--- of their events
+-- of serving that begins so there are groups of rounds, each round what the rules said, and each
+-- query such as fits a piece, after which it ended so, and the archive stands for what is kept of
+-- their events
 pub record ServesKept {S E C : Type 0} (m : Meaning S E C KeyRow) (w : Setting) (past : List Event) (numbers : List ℕ) (here : List (Replica S E C))
     (tells : Tells) (base : Outs) (now : Moment) (end : ServeEnd) (until limit : ℕ) (start : Serving) : Type 0 where
   pub groups : List (List Round)
   pub are : AreGroups w past until limit start groups
+  pub queries : QueriesFit w past start groups
   pub so : EndsKept m w past numbers here tells base now.outs end (before_newest w past start groups).events (after_groups w past start groups)
       (sooner w past start groups) (newest_calls w past start groups) (wants w past until limit (after_groups w past start groups))
   pub kept : KeptAt now (reach tells base now.outs (before_newest w past start groups).events (after_groups w past start groups).events (sooner w past start groups))

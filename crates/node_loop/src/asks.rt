@@ -82,6 +82,7 @@ impl<S: Service, E: Broadcast, C: Coin + Drop> House<S, E, C> {
     ghost use Rattle.ritas_base.specs.declared.event.Event.{Event};
     ghost use Rattle.ritas_base.specs.declared.event.Event.TheVariants.{Frame};
     ghost use Rattle.outside.specs.Links.{bytes_of};
+    ghost use Rattle.command_log.specs.Index.{HaveFourBytes};
     ghost use Rattle.command_log.specs.Rows.{position_of};
     ghost use Rattle.schedule_file.specs.Spelling.{IsSized};
     ghost use Rattle.world_model.specs.World.{Setting, seen_answer};
@@ -95,6 +96,7 @@ impl<S: Service, E: Broadcast, C: Coin + Drop> House<S, E, C> {
     ghost use Rattle.client_port.specs.Messages.{request_in};
     ghost use Rattle.node_loop.specs.Calls.{event_called, silent, submitted, asked_so, asks_so, queried, asks, if_here, item_does, first_does};
     ghost use Rattle.node_loop.specs.Peers.{Peers, keep_all, with_mark};
+    ghost use Rattle.node_loop.specs.Queries.{FitsPiece, ItemFits};
     ghost use Rattle.node_loop.specs.Resending.{nothing_more, mark_at, is_deferred, noted_so, opened_so, item_brings};
     ghost use Rattle.node_loop.specs.Serving.{frames_made_by};
     ghost use Rattle.node_loop.specs.Served.{AreHere, MayBegin};
@@ -191,13 +193,19 @@ impl<S: Service, E: Broadcast, C: Coin + Drop> House<S, E, C> {
             (w : Setting) (es : List Event) (numbers : List ℕ) (ws : Waiting) (p : Peers) → HouseStands m w es numbers self.now ws p
             → slice_get numbers place ≡ Some output.old.at → IsEmptyOutput output.old
             → OnOk result (ComesOut m w es numbers self.now output.new (queried w es output.old.at conn position ws) (nothing_more p)) }
+        ensures fits { let m = meaning_of S.Service E.Broadcast C.Coin in
+            (w : Setting) (es : List Event) (numbers : List ℕ) → AreHere m w es numbers self.now.replicas.items
+            → slice_get numbers place ≡ Some output.old.at
+            → (position < 4294967296) × HaveFourBytes (rows_at w es output.old.at) }
         ensures none { OnOk result (output.new.event ≡ output.old.event) }
     {
         let Some(replica) = self.replicas.get(place) else {
             // There is no such place.
             return Ok(());
         };
-        let piece = write_piece(alloc, replica.log(), position)?;
+        let log = replica.log();
+        log.numbers_fit();
+        let piece = write_piece(alloc, log, position)?;
         reply(output, conn, ReplyBytes::Piece { bytes: piece })
     }
 
@@ -240,6 +248,9 @@ impl<S: Service, E: Broadcast, C: Coin + Drop> House<S, E, C> {
             (w : Setting) (es : List Event) (numbers : List ℕ) (ws : Waiting) (p : Peers) → HouseStands m w es numbers self.old ws p
             → let did = if_here w at (asks w es at conn bytes ws) ws in
             OnOk result (ComesOut m w es numbers self.new output.new did (nothing_more (keep_all (frames_made_by w es did.event) p))) }
+        ensures fits { let m = meaning_of S.Service E.Broadcast C.Coin in
+            (w : Setting) (es : List Event) (numbers : List ℕ) → AreHere m w es numbers self.old.replicas.items
+            → FitsPiece w es at bytes }
         ensures sized { length bytes < 2 ^ 16 → OnOk result (IfSome output.new.event IsSized) }
     {
         output.clear(at);
@@ -425,6 +436,9 @@ impl<S: Service, E: Broadcast, C: Coin + Drop> House<S, E, C> {
             (w : Setting) (es : List Event) (numbers : List ℕ) (ws : Waiting) (p : Peers) → HouseStands m w es numbers self.old ws p
             → let did = item_does w es item ws in
             OnOk result (ComesOut m w es numbers self.new output.new did (item_brings w es item (keep_all (frames_made_by w es did.event) p))) }
+        ensures fits { let m = meaning_of S.Service E.Broadcast C.Coin in
+            (w : Setting) (es : List Event) (numbers : List ℕ) → AreHere m w es numbers self.old.replicas.items
+            → ItemFits w es item }
         ensures sized { OnOk result (IfSome output.new.event IsSized) }
     {
         match item {

@@ -86,8 +86,9 @@ pub fn replies_are_true<S: Service, E: Broadcast>()
     world_model::logs_grow::<S, E>();
 }
 
-/// A piece that a correct replica replied is read by an observer without a fault, as a piece of the log which that replica has. So it is
-/// what `observer::log_is_true` asks of the pieces of correct replicas.
+/// A piece that was replied is read by an observer without a fault, as a piece of the log which its replica has. So it is
+/// what `observer::log_is_true` asks of the pieces of correct replicas. That the queries fit, as the law asks, is what
+/// `serve`, `serve_kept` and `serve_recovered` say of what they served (`queries` of `Serves` and of `ServesAgain`).
 ///
 /// It does nothing: its contract is the law.
 pub fn pieces_are_of_logs<S: Service, E: Broadcast>()

@@ -115,9 +115,10 @@ impl<S: Service, E: Broadcast, C: Coin + Drop> House<S, E, C> {
     ghost use Rattle.node_loop.specs.Groups.{JoinsGroup, Under};
     ghost use Rattle.node_loop.specs.Meanings.{meaning_of};
     ghost use Rattle.node_loop.specs.Peers.{Peers};
+    ghost use Rattle.node_loop.specs.Queries.{ItemFits};
     ghost use Rattle.node_loop.specs.Running.{IsNext};
     ghost use Rattle.node_loop.specs.Served.{MayBegin};
-    ghost use Rattle.node_loop.specs.Serving.{Serving, Round, Began, Turned, Reminded, Took, wants_of};
+    ghost use Rattle.node_loop.specs.Serving.{Serving, Round, Began, Turned, Reminded, Took, wants_of, so_far, after_from};
     ghost use Rattle.node_loop.specs.Standing.{HouseStands};
     ghost use Rattle.node_loop.specs.Waiting.{Waiting};
 
@@ -202,6 +203,10 @@ impl<S: Service, E: Broadcast, C: Coin + Drop> House<S, E, C> {
             (w : Setting) (past : List Event) (numbers : List ℕ) (start : Serving) (newest : List Round)
             → Under m w past numbers start newest self.old group.old → JoinsGroup newest (Took item) group.old
             → OnOk result (Under m w past numbers start (Took item ∷ newest) self.new group.new) }
+        ensures fits { let m = meaning_of S.Service E.Broadcast C.Coin in
+            (w : Setting) (past : List Event) (numbers : List ℕ) (start : Serving) (newest : List Round)
+            → Under m w past numbers start newest self.old group.old
+            → ItemFits w (so_far past (after_from w past start newest)) item }
     {
         let mut output = group.output(alloc);
         self.take(alloc, item, &mut output)?;

@@ -9,4 +9,9 @@ returns g c = record {
       c.gather.ensures.joins w past numbers start (Took c.args.item) newest
       (c.in_ok-take.ensures.comes w (so_far past s) numbers s.waiting s.peers under.stands) (rw c.output-output.ensures.same (holds_spare w past start newest c.args.group.now c.output-output.new.self.spare under.holds))
       (rw c.output-output.ensures.same (joins_spare newest _ c.args.group.now c.output-output.new.self.spare joins));
+  fits = λ w past numbers start newest under. c.in_ok-take.ensures.fits w (so_far past (after_from w past start newest)) numbers under.stands.here;
 }
+
+pub returns-in_err-take-clause-fits : goal.returns-in_err-take-clause-fits
+returns-in_err-take-clause-fits g c = λ w past numbers start newest under.
+    c.in_err-take.ensures.fits w (so_far past (after_from w past start newest)) numbers under.stands.here

@@ -1,6 +1,7 @@
-use Rattle.std.proofs.Common.{sym}
+use Rattle.std.proofs.Common.{sym, subst}
 use Rattle.std.proofs.lemmas.Result.{on_ok_weaker}
 use Rattle.outside.specs.declared.link.LinkItem.TheVariants as items
+use Rattle.node_loop.specs.Queries.{ItemFits}
 use Rattle.node_loop.proofs.Hearing.{same_item}
 use Rattle.node_loop.proofs.house.House.take.Goals as goal
 
@@ -13,3 +14,6 @@ returns-in-Frame-clause-comes g c = λ w es numbers ws p stand.
 pub returns-in-Up-clause-comes : goal.returns-in-Up-clause-comes
 returns-in-Up-clause-comes g c = λ w es numbers ws p stand.
     same_item _ w es numbers c.up.new.self c.up.new.output ws p (items.Up c.in-Up.at c.in-Up.peer) c.args.item (sym c.in-Up.is) (c.up.ensures.comes w es numbers ws p stand)
+
+pub returns-in-Client-clause-fits : goal.returns-in-Client-clause-fits
+returns-in-Client-clause-fits g c = λ w es numbers stand. subst (λ x. ItemFits w es x) (sym c.in-Client.is) (c.ask.ensures.fits w es numbers stand)

@@ -25,7 +25,7 @@ returns-in_err-join_first-clause-begins g c = λ o start.
     let fault = err_from_is_err_and c.from_residual.result c.from_residual.ensures.1 in
     let want = first_wanted _ o.world o.past o.numbers _ o.base _ _ o.start _ _ _ (drop i xs) run item (drop (i + 1) xs) (next_first xs i item c.loop-item-test.true c.item-item.is) in
     rw (fault.1 ∙ ap (λ (x : Fault). Err x) fault.2)
-    (λ end is. rw is (first_short _ o.world o.past o.numbers _ o.base _ _ o.start _ _ _ (drop i xs) run _ _ (Began item) want run.agrees run.kept))
+    (λ end is. rw is (first_short _ o.world o.past o.numbers _ o.base _ _ o.start _ _ _ (drop i xs) run _ _ (Began item) want tt run.agrees run.kept))
 
 pub returns-in_err-deliver-clause-begins : goal.returns-in_err-deliver-clause-begins
 returns-in_err-deliver-clause-begins g c = λ o start.

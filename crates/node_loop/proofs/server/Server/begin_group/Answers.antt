@@ -33,7 +33,7 @@ returns-in_err-join_turn-in-Turn-clause-begins g c = λ o run.
     let end = err_from_is_err_and c.from_residual.result c.from_residual.ensures.1 in
     rw (end.1 ∙ ap (λ (x : ServeEnd). Err x) end.2)
     (first_short _ o.world o.past o.numbers _ o.base pace.until pace.limit o.start _ _ pace.taken [] run _ _ (Turned at)
-    (turn_wanted o.world o.past pace.until pace.limit s pace.taken run.rest run.count at is) run.agrees run.kept)
+    (turn_wanted o.world o.past pace.until pace.limit s pace.taken run.rest run.count at is) tt run.agrees run.kept)
 
 pub returns-in_ok-join_turn-in-Turn-clause-begins : goal.returns-in_ok-join_turn-in-Turn-clause-begins
 returns-in_ok-join_turn-in-Turn-clause-begins g c = λ o run.
@@ -45,7 +45,7 @@ returns-in_ok-join_turn-in-Turn-clause-begins g c = λ o run.
     let correct = turn_at_correct o.world o.past pace.until pace.limit s pace.taken run.rest run.count at is in
     let want = turn_wanted o.world o.past pace.until pace.limit s pace.taken run.rest run.count at is in
     let under = c.in_ok-join_turn-in-Turn.ensures.joins o.world o.past o.numbers s [] none tt correct in
-    gathers_first _ o.world o.past o.numbers _ o.base pace.until pace.limit o.start _ _ pace.taken [] run _ _ _ pace.taken [] (Turned at) want run.rest run.count run.agrees run.kept under
+    gathers_first _ o.world o.past o.numbers _ o.base pace.until pace.limit o.start _ _ pace.taken [] run _ _ _ pace.taken [] (Turned at) want tt run.rest run.count run.agrees run.kept under
 
 -- a peer is asked to send again
 
@@ -58,7 +58,7 @@ returns-in_err-join_reminder-in-Remind-clause-begins g c = λ o run.
     let end = err_from_is_err_and c.from_residual-in_err-join_reminder-in-Remind.result c.from_residual-in_err-join_reminder-in-Remind.ensures.1 in
     rw (end.1 ∙ ap (λ (x : ServeEnd). Err x) end.2)
     (first_short _ o.world o.past o.numbers _ o.base pace.until pace.limit o.start _ _ pace.taken [] run _ _ (Reminded pair.at pair.peer)
-    (remind_wanted o.world o.past pace.until pace.limit s pace.taken run.rest run.count pair is) run.agrees run.kept)
+    (remind_wanted o.world o.past pace.until pace.limit s pace.taken run.rest run.count pair is) tt run.agrees run.kept)
 
 pub returns-in_ok-join_reminder-in-Remind-clause-begins : goal.returns-in_ok-join_reminder-in-Remind-clause-begins
 returns-in_ok-join_reminder-in-Remind-clause-begins g c = λ o run.
@@ -70,4 +70,4 @@ returns-in_ok-join_reminder-in-Remind-clause-begins g c = λ o run.
     let peer = remind_of_peer o.world o.past pace.until pace.limit s pace.taken run.rest run.count pair is in
     let want = remind_wanted o.world o.past pace.until pace.limit s pace.taken run.rest run.count pair is in
     let under = c.in_ok-join_reminder-in-Remind.ensures.joins o.world o.past o.numbers s [] none tt peer.0 peer.1 in
-    gathers_first _ o.world o.past o.numbers _ o.base pace.until pace.limit o.start _ _ pace.taken [] run _ _ _ pace.taken [] (Reminded pair.at pair.peer) want run.rest run.count run.agrees run.kept under
+    gathers_first _ o.world o.past o.numbers _ o.base pace.until pace.limit o.start _ _ pace.taken [] run _ _ _ pace.taken [] (Reminded pair.at pair.peer) want tt run.rest run.count run.agrees run.kept under

@@ -66,7 +66,7 @@ returns-in_ok-join_turn-in-Turn-clause-gathers g c = λ o many goes lt run.
     let correct = turn_at_correct o.world o.past pace.until pace.limit s pace.taken run.rest run.items at is in
     let want = turn_wanted o.world o.past pace.until pace.limit s pace.taken run.rest run.items at is in
     let under = c.in_ok-join_turn-in-Turn.ensures.joins o.world o.past o.numbers s₀ run.newest run.under (may_join (Turned at) c.args.self.now.group.now tt goes run.newest) correct in
-    gathers_more _ o.world o.past o.numbers _ o.base pace.until pace.limit o.start _ _ _ pace.taken [] many run _ _ _ pace.taken [] (Turned at) want run.rest run.items
+    gathers_more _ o.world o.past o.numbers _ o.base pace.until pace.limit o.start _ _ _ pace.taken [] many run _ _ _ pace.taken [] (Turned at) want tt run.rest run.items
     (calls_with_turn _ o.world o.past o.numbers _ o.base pace.until pace.limit o.start _ _ _ pace.taken [] many run at) run.kept under
 
 pub returns-in_err-join_turn-in-Turn-clause-gathers : goal.returns-in_err-join_turn-in-Turn-clause-gathers
@@ -78,5 +78,5 @@ returns-in_err-join_turn-in-Turn-clause-gathers g c = λ o many goes lt run.
     let want = turn_wanted o.world o.past pace.until pace.limit s pace.taken run.rest run.items at is in
     let fault = err_from_is_err_and c.from_residual.result c.from_residual.ensures.1 in
     rw (fault.1 ∙ ap (λ (x : Fault). Err x) fault.2)
-    (λ end is_end. rw is_end (more_short _ o.world o.past o.numbers _ o.base pace.until pace.limit o.start _ _ _ pace.taken [] many run _ _ (Turned at) lt tt goes want
+    (λ end is_end. rw is_end (more_short _ o.world o.past o.numbers _ o.base pace.until pace.limit o.start _ _ _ pace.taken [] many run _ _ (Turned at) lt tt goes want tt
     (calls_with_turn _ o.world o.past o.numbers _ o.base pace.until pace.limit o.start _ _ _ pace.taken [] many run at) run.kept))

@@ -38,8 +38,9 @@ returns-clause-begins g c = λ o run is.
     let want = item_wanted o.world o.past pace.until pace.limit s pace.taken run.rest run.count item is
     (record { goes_on = λ e. both_ways false refl (c.if-is_end.ensures.1 e); short = c.in_ok-item.ensures.size }) in
     let agrees = next_told _ o.base _ s.events (told_from o.world o.past o.start run.groups) _ _ (Gives item) run.agrees c.in_ok-item.ensures.ok c.in_ok-item.ensures.count in
+    let fits = c.in_ok-join_item.ensures.fits o.world o.past o.numbers s [] none in
     let under = c.in_ok-join_item.ensures.joins o.world o.past o.numbers s [] none tt in
-    gathers_first _ o.world o.past o.numbers _ o.base pace.until pace.limit o.start _ _ pace.taken [] run _ _ _ (pace.taken + 1) [] (Took item) want run.rest (ap (λ (n : ℕ). n + 1) run.count) agrees run.kept under
+    gathers_first _ o.world o.past o.numbers _ o.base pace.until pace.limit o.start _ _ pace.taken [] run _ _ _ (pace.taken + 1) [] (Took item) want fits run.rest (ap (λ (n : ℕ). n + 1) run.count) agrees run.kept under
 
 pub returns-in_err-join_item-clause-begins : goal.returns-in_err-join_item-clause-begins
 returns-in_err-join_item-clause-begins g c = λ o run is.
@@ -49,6 +50,8 @@ returns-in_err-join_item-clause-begins g c = λ o run is.
     let want = item_wanted o.world o.past pace.until pace.limit s pace.taken run.rest run.count item is
     (record { goes_on = λ e. both_ways false refl (c.if-is_end.ensures.1 e); short = c.in_ok-item.ensures.size }) in
     let agrees = next_told _ o.base _ s.events (told_from o.world o.past o.start run.groups) _ _ (Gives item) run.agrees c.in_ok-item.ensures.ok c.in_ok-item.ensures.count in
+    let none = under_none _ o.world o.past o.numbers _ o.base pace.until pace.limit o.start _ _ pace.taken [] run c.args.self.now.group.now c.requires.empty in
+    let fits = c.in_err-join_item.ensures.fits o.world o.past o.numbers s [] none in
     let end = err_from_is_err_and c.from_residual-in_err-join_item.result c.from_residual-in_err-join_item.ensures.1 in
     rw (end.1 ∙ ap (λ (x : ServeEnd). Err x) end.2)
-    (first_short _ o.world o.past o.numbers _ o.base pace.until pace.limit o.start _ _ pace.taken [] run _ _ (Took item) want agrees run.kept)
+    (first_short _ o.world o.past o.numbers _ o.base pace.until pace.limit o.start _ _ pace.taken [] run _ _ (Took item) want fits agrees run.kept)
