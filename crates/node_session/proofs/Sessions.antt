@@ -31,6 +31,8 @@ use Rattle.node_loop.specs.declared.end.ServeEnd.{ServeEnd}
 use Rattle.node_loop.specs.Deeds.{Deed, firsts_in}
 use Rattle.node_loop.specs.Laws.{sent_as, ActsAreDeeds, DeedsAreBehind, FramesAreMade, AllSent, AreOpen, ResendsAreOpen, AcksAreEarned, RepliesAreTrue, EventsFit, IsServed}
 use Rattle.node_loop.specs.Outs.{Outs, Tells}
+use Rattle.node_loop.specs.PieceLaws.{PiecesAreOfLogs}
+use Rattle.node_loop.specs.Queries.{QueriesFit}
 use Rattle.node_loop.specs.Served.{MayBegin, Serves}
 use Rattle.node_loop.specs.Serving.{Serving, begin, so_far, Round, wants}
 use Rattle.node_loop.specs.Told.{AreGroups, after_groups, before_newest, told_from, newest_calls, sooner, deeds_from}
@@ -115,13 +117,13 @@ all_back {X = X} P (x ∷ xs) all =
 
 module _ (h : Header) (w : Setting) (is : IsHeading (heading h)) (service : ServiceRules) (other : BroadcastRules) (kind : IsWorld service other w)
     (numbers : w.numbers ≡ h.p) (correct : (i : ℕ) → w.is_correct i ≡ true → has_member h.correct i ≡ true)
-    (done : ActsAreDeeds) (behind : DeedsAreBehind) (made : FramesAreMade) (kept : ResendsAreOpen) (earned : AcksAreEarned) (fit : EventsFit) (replied : RepliesAreTrue service other) (agreed : AgreementLaw service other) where
+    (done : ActsAreDeeds) (behind : DeedsAreBehind) (made : FramesAreMade) (kept : ResendsAreOpen) (earned : AcksAreEarned) (fit : EventsFit) (replied : RepliesAreTrue service other) (pieces : PiecesAreOfLogs service other) (agreed : AgreementLaw service other) where
   -- of serving that began after the past events, whose frames went out earlier
   pub is_true : (past : List Event) (until limit : ℕ) (start : Serving) (earlier : List Deed) (groups : List (List Round)) → start.events ≡ []
       → All MayBegin start.left → all_made w past ≡ reverse (firsts_in earlier) → AllSent w start.peers earlier → AreOpen w earlier
-      → AllByRecursion (IsServed w) past → AreGroups w past until limit start groups
+      → AllByRecursion (IsServed w) past → AreGroups w past until limit start groups → QueriesFit w past start groups
       → IsTrueSession h w (so_far past (after_groups w past start groups)) earlier (deeds_from w past start [] groups) (told_from w past start groups)
-  is_true past until limit start earlier groups no_events firsts first_made sent again served are =
+  is_true past until limit start earlier groups no_events firsts first_made sent again served are queries =
       let s = after_groups w past start groups in
       let deeds = deeds_from w past start [] groups in
       let all_deeds : deeds_from w past start earlier groups ≡ deeds ++ earlier = behind w past start earlier groups in
@@ -142,21 +144,23 @@ module _ (h : Header) (w : Setting) (is : IsHeading (heading h)) (service : Serv
         resends = subst (AreOpen w) all_deeds (kept w past until limit start earlier groups are sent again);
         acknowledged = earned w past start [] groups tt;
         replies = replied w past start groups kind;
+        pieces = pieces w past start groups kind queries;
         agree = λ holds. agreed w (so_far past s) kind holds;
       }
 
   pub is_session : (until limit : ℕ) (first : List LinkItem) (groups : List (List Round)) → All MayBegin first → AreGroups w [] until limit (begin first) groups
+      → QueriesFit w [] (begin first) groups
       → IsTrueSession h w (after_groups w [] (begin first) groups).events [] (deeds_from w [] (begin first) [] groups) (told_from w [] (begin first) groups)
   unfolding all_made
-  is_session until limit first groups firsts are =
+  is_session until limit first groups firsts are queries =
       subst (λ (es : List Event). IsTrueSession h w es [] (deeds_from w [] (begin first) [] groups) (told_from w [] (begin first) groups))
       (append-nil (after_groups w [] (begin first) groups).events)
-      (is_true [] until limit (begin first) [] groups refl firsts refl (record { each = λ i j. tt }) tt tt are)
+      (is_true [] until limit (begin first) [] groups refl firsts refl (record { each = λ i j. tt }) tt tt are queries)
 
 -- ---- the session as a whole
 
 module _ (x : Session) (first : List LinkItem) (w : Setting) (tells : Tells)
-    (session : (groups : List (List Round)) → AreGroups w [] x.until x.limit (begin first) groups
+    (session : (groups : List (List Round)) → AreGroups w [] x.until x.limit (begin first) groups → QueriesFit w [] (begin first) groups
     → IsTrueSession x.header w (after_groups w [] (begin first) groups).events [] (deeds_from w [] (begin first) [] groups) (told_from w [] (begin first) groups)) where
   -- it ended before it was served
   pub fails : (base now : Outs) (end : ServeEnd) → HasFailed (heading x.header) x.plan tells base now end → ServesSession x first w tells base now end
@@ -164,7 +168,7 @@ module _ (x : Session) (first : List LinkItem) (w : Setting) (tells : Tells)
     groups = [];
     are = tt;
     so = not_begun x.header x.plan tells base now [] (begin first) [] [] (wants w [] x.until x.limit (begin first)) end failed;
-    true_of = session [] tt;
+    true_of = session [] tt tt;
     tape_later = failed.tape_later;
     link_later = failed.link_later;
   }
@@ -183,7 +187,7 @@ module _ (x : Session) (first : List LinkItem) (w : Setting) (tells : Tells)
           groups = run.groups;
           are = run.are;
           so = ended x w tells m numbers here base mid now last begun earlier s old new rule end result run.so same same_count closed kept;
-          true_of = session run.groups run.are;
+          true_of = session run.groups run.are run.queries;
           tape_later = omega (arith, begun.tape_stands, tape_on x w tells m numbers here base mid now last begun earlier s old new rule end run.so, end_on x w tells m numbers here base mid now last begun end result (is_reason end) refl closed kept);
           link_later = omega (arith, same_failed begun.link_stands, link_on x w tells m numbers here base mid now last begun earlier s old new rule end run.so, same_failed same_count);
         }

@@ -21,6 +21,7 @@ use Rattle.node_loop.specs.declared.end.ServeEnd.TheVariants as ends
 use Rattle.node_loop.specs.Deeds.{Deed, act_of, firsts_in}
 use Rattle.node_loop.specs.Laws.{sent_as, all_frames_of, AreOpen, AreEarned, IsTrueReply}
 use Rattle.node_loop.specs.Outs.{Outs, NoneFailed, TapeFailed, LinkFailed, FellShort, Tells, Agrees}
+use Rattle.node_loop.specs.PieceLaws.{IsPieceRead}
 use Rattle.node_loop.specs.Served.{MayBegin, Breaks}
 use Rattle.node_loop.specs.Serving.{Serving, Want, Begins, Finishes, Turns, Halts, Reminds, Asks, Round, begin, wants}
 use Rattle.node_loop.specs.Told.{AreGroups, after_groups, before_newest, told_from, newest_calls, sooner, deeds_from}
@@ -85,7 +86,7 @@ SessionEnds h plan tells base now (ends.JournalFull x) earlier s sooner news rul
 -- of lives before, of which a journal kept the events: a file of these events is one; the frames that went out for the first time, with the
 -- earlier ones, are those that its replicas made, in their order; each that went out again did so after its first time, with no acknowledgement
 -- of it between the two; each acknowledgement is of a frame that came, opened, and was answered otherwise than that it is to come again; each
--- reply of a position is true; and where the audit holds the replicas agree.
+-- reply of a position is true; each piece is read without a fault, as one of the log of its replica; and where the audit holds the replicas agree.
 pub record IsTrueSession (h : Header) (w : Setting) (events : List Event) (earlier deeds : List Deed) (acts : List LinkAct) : Type 0 where
   pub file : length (FileOf (heading h) events) ≤ file.limit → IsFile (FileOf (heading h) events) (heading h) events
   pub calls : acts ≡ map (act_of w.keys) deeds
@@ -93,6 +94,7 @@ pub record IsTrueSession (h : Header) (w : Setting) (events : List Event) (earli
   pub resends : AreOpen w (deeds ++ earlier)
   pub acknowledged : AreEarned w events deeds
   pub replies : AllByRecursion (IsTrueReply w events) (replies_in acts)
+  pub pieces : AllByRecursion (IsPieceRead w events) (replies_in acts)
   pub agree : audit_of w events ≡ Holds → Agree w events
 
 -- There are groups of rounds, each round what the rules of serving say, after which the session ended so.

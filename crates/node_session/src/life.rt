@@ -20,8 +20,8 @@ use event_journal::Journal;
 use layer_api::{Broadcast, Service};
 use multivalued::Mvc;
 use node_loop::{
-    ServeEnd, acks_are_earned, acts_are_deeds, events_fit, frames_are_made, recalled_are_sent,
-    replies_are_true, resends_are_open, serve_recovered,
+    ServeEnd, acks_are_earned, acts_are_deeds, events_fit, frames_are_made, pieces_are_of_logs,
+    recalled_are_sent, replies_are_true, resends_are_open, serve_recovered,
 };
 use outside::{Disk, Link, Sink};
 use reliable_bcast::{DigestRb, Rb};
@@ -71,6 +71,7 @@ fn live_as<R: Net + Wait, S: Service, E: Broadcast, L: Link, K: Sink, D: Disk>(
     recalled_are_sent();
     acks_are_earned();
     replies_are_true::<S, E>();
+    pieces_are_of_logs::<S, E>();
     agreement::<S, E>();
     let mut replicas = first_replicas::<S, E>(alloc, &life.session.header)?;
     match open(

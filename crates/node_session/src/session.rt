@@ -18,8 +18,8 @@ use keyed_channel::SeedCoin;
 use layer_api::{Broadcast, Service};
 use multivalued::Mvc;
 use node_loop::{
-    ServeEnd, acks_are_earned, acts_are_deeds, events_fit, frames_are_made, replies_are_true,
-    resends_are_open, serve,
+    ServeEnd, acks_are_earned, acts_are_deeds, events_fit, frames_are_made, pieces_are_of_logs,
+    replies_are_true, resends_are_open, serve,
 };
 use outside::{Link, LinkItem, LinkPlan, Sink};
 use reliable_bcast::{DigestRb, Rb};
@@ -85,6 +85,7 @@ fn serve_as<R: Net + Wait, S: Service, E: Broadcast, L: Link, K: Sink>(
     resends_are_open();
     acks_are_earned();
     replies_are_true::<S, E>();
+    pieces_are_of_logs::<S, E>();
     agreement::<S, E>();
     let mut replicas = first_replicas::<S, E>(alloc, &session.header)?;
     match open(rt, alloc, &session.header, &session.plan, link, output) {

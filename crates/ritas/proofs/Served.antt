@@ -112,6 +112,7 @@ with_end h w events earlier deeds acts true_of = record {
   resends = true_of.resends;
   acknowledged = true_of.acknowledged;
   replies = true_of.replies;
+  pieces = true_of.pieces;
   agree = true_of.agree;
 }
 
