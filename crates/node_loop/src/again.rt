@@ -1,13 +1,10 @@
 //! Serving again, after events that a journal kept.
-ghost use Rattle.std.specs.Prelude.{◌≡◌, ℕ, [], List, true, reverse};
+ghost use Rattle.std.specs.Prelude.{◌≡◌, true};
 ghost use Rattle.std.specs.List.{AllByRecursion};
-ghost use Rattle.world_model.specs.World.{Setting};
 ghost use Rattle.event_journal.specs.Journal.{IsRecord};
 ghost use Rattle.node_loop.specs.Meanings.{meaning_of};
-ghost use Rattle.node_loop.specs.Again.{ServesAgain};
-ghost use Rattle.node_loop.specs.Journals.{journal_moment, OpenedAs};
+ghost use Rattle.node_loop.specs.Again.{ServesAfter, life};
 ghost use Rattle.node_loop.specs.Outs.{outs_of, tells_of};
-ghost use Rattle.node_loop.specs.Served.{AreHere};
 
 use crate::archive::Archive;
 use crate::end::ServeEnd;
@@ -26,23 +23,30 @@ use std::convert::AsSlice;
 use std::net::Net;
 use std::sync::Wait;
 
-/// Serves one replica again, after the events that its journal kept, or for the first time, where there are none (`event_journal::open_journal`
-/// gives both). These events happen to it first, with no reply, and the tape takes them; the frames of their calls are kept for their peers, where
-/// the oldest make room for the newest, and none goes to the link by that. A request that was taken and isn't in the log waits, with no connection.
-/// Then it serves as `serve` does, with no items to begin with.
+/// Serves one replica again, after the events that its journal kept, or for the first time, where
+/// there are none (`event_journal::open_journal` gives both). These events happen to it first, with
+/// no reply, and the tape takes them. The frames of their calls are kept for their peers, where the
+/// oldest make room for the newest, and none goes to the link by that. A request that was taken and
+/// isn't in the log waits, with no connection. Then it serves as `serve` does, with no items to
+/// begin with.
 ///
-/// Each call that was answered `Took` or `Held`, and each turn, is appended to the journal, after its event went to the tape and before its frames,
-/// its acknowledgement and its replies go out: those of one group all at once, with two syncs. Other calls change nothing,
-/// and aren't appended. So whenever a stop comes, what it leaves on the disk opens as the recovered events and the first of those that were
-/// appended: with each of which a frame, an acknowledgement or a reply went out.
+/// Each call that was answered `Took` or `Held`, and each turn, is appended to the journal, after
+/// its event went to the tape and before its frames, its acknowledgement and its replies go out:
+/// those of one group all at once, with two syncs. Other calls change nothing, and aren't appended.
+/// So whenever a stop comes, what it leaves on the disk opens as the recovered events and the first
+/// of those that were appended: with each of which a frame, an acknowledgement or a reply went out.
 ///
-/// It ends as `serve` does, and with `DiskFault` where the disk failed, or with `JournalFull` where the journal would become too long, with its
-/// length then, up to 2^64 - 1: of the events that weren't appended nothing goes out. At these ends, as at a fault of the tape or the link, the
-/// replica stands where all events leave it. Where the link fails, the tape has all events, and the journal those of them that it keeps, unless the
-/// link was asked for an item that was to join a group: then both have exactly those before the group, and nothing of it went out. By the disk's count
-/// of faults one call of it failed just where it ends with `DiskFault`, and none at any other end.
+/// It ends as `serve` does, and with `DiskFault` where the disk failed, or with `JournalFull` where
+/// the journal would become too long, with its length then, up to 2^64 - 1: of the events that
+/// weren't appended nothing goes out. At these ends, as at a fault of the tape or the link, the
+/// replica stands where all events leave it. Where the link fails, the tape has all events, and the
+/// journal those of them that it keeps, unless the link was asked for an item that was to join a
+/// group: then both have exactly those before the group, and nothing of it went out. By the disk's
+/// count of faults one call of it failed just where it ends with `DiskFault`, and none at any other
+/// end.
 ///
-/// The vector has one replica, as it was made, with the journal's number. `serve_recovered` does the same with events that it may let go.
+/// The vector has one replica, as it was made, with the journal's number. `serve_recovered` does
+/// the same with events that it may let go.
 pub fn serve_kept<
     R: Net + Wait,
     S: Service,
@@ -65,13 +69,10 @@ pub fn serve_kept<
 ) -> ServeEnd
     requires live { journal.old.live ≡ true }
     requires own { AllByRecursion (IsRecord journal.old.me) recovered.now.items }
-    ensures serves { let m = meaning_of S.Service E.Broadcast C.Coin in
-        (head : List ℕ) (w : Setting) (numbers : List ℕ) → AreHere m w [] numbers replicas.old.items → w.is_correct journal.old.me ≡ true
-        → OpenedAs D.Disk head (reverse recovered.now.items) journal.old disk.old
-        → ServesAgain m w (reverse recovered.now.items) numbers replicas.new.items (tells_of K.Sink L.Link)
-        (outs_of K.Sink L.Link tape.old link.old)
-        (journal_moment D.Disk head (reverse recovered.now.items) journal.old.me disk.old
-        (outs_of K.Sink L.Link tape.new link.new) journal.new disk.new)
+    ensures serves { ServesAfter (meaning_of S.Service E.Broadcast C.Coin) D.Disk (tells_of K.Sink L.Link)
+        recovered.now.items
+        (life replicas.old.items journal.old disk.old (outs_of K.Sink L.Link tape.old link.old))
+        (life replicas.new.items journal.new disk.new (outs_of K.Sink L.Link tape.new link.new))
         result until limit }
 {
     serve_after(
@@ -79,7 +80,8 @@ pub fn serve_kept<
     )
 }
 
-/// Serves one replica again, as `serve_kept` does, and lets the recovered events go once they happened again and are on the tape.
+/// Serves one replica again, as `serve_kept` does, and lets the recovered events go once they
+/// happened again and are on the tape.
 pub fn serve_recovered<
     R: Net + Wait,
     S: Service,
@@ -102,13 +104,10 @@ pub fn serve_recovered<
 ) -> ServeEnd
     requires live { journal.old.live ≡ true }
     requires own { AllByRecursion (IsRecord journal.old.me) recovered.items }
-    ensures serves { let m = meaning_of S.Service E.Broadcast C.Coin in
-        (head : List ℕ) (w : Setting) (numbers : List ℕ) → AreHere m w [] numbers replicas.old.items → w.is_correct journal.old.me ≡ true
-        → OpenedAs D.Disk head (reverse recovered.items) journal.old disk.old
-        → ServesAgain m w (reverse recovered.items) numbers replicas.new.items (tells_of K.Sink L.Link)
-        (outs_of K.Sink L.Link tape.old link.old)
-        (journal_moment D.Disk head (reverse recovered.items) journal.old.me disk.old
-        (outs_of K.Sink L.Link tape.new link.new) journal.new disk.new)
+    ensures serves { ServesAfter (meaning_of S.Service E.Broadcast C.Coin) D.Disk (tells_of K.Sink L.Link)
+        recovered.items
+        (life replicas.old.items journal.old disk.old (outs_of K.Sink L.Link tape.old link.old))
+        (life replicas.new.items journal.new disk.new (outs_of K.Sink L.Link tape.new link.new))
         result until limit }
 {
     serve_after(
@@ -140,13 +139,10 @@ fn serve_after<
 ) -> ServeEnd
     requires live { journal.old.live ≡ true }
     requires own { AllByRecursion (IsRecord journal.old.me) (P.items recovered) }
-    ensures serves { let m = meaning_of S.Service E.Broadcast C.Coin in
-        (head : List ℕ) (w : Setting) (numbers : List ℕ) → AreHere m w [] numbers replicas.old.items → w.is_correct journal.old.me ≡ true
-        → OpenedAs D.Disk head (reverse (P.items recovered)) journal.old disk.old
-        → ServesAgain m w (reverse (P.items recovered)) numbers replicas.new.items (tells_of K.Sink L.Link)
-        (outs_of K.Sink L.Link tape.old link.old)
-        (journal_moment D.Disk head (reverse (P.items recovered)) journal.old.me disk.old
-        (outs_of K.Sink L.Link tape.new link.new) journal.new disk.new)
+    ensures serves { ServesAfter (meaning_of S.Service E.Broadcast C.Coin) D.Disk (tells_of K.Sink L.Link)
+        (P.items recovered)
+        (life replicas.old.items journal.old disk.old (outs_of K.Sink L.Link tape.old link.old))
+        (life replicas.new.items journal.new disk.new (outs_of K.Sink L.Link tape.new link.new))
         result until limit }
 {
     let mut house = match House::new(alloc, replicas) {
@@ -199,10 +195,14 @@ impl<L: Link, K: Sink, A: Archive<D>, D> Server<'_, '_, '_, '_, '_, L, K, A, D> 
         requires empty { IsEmpty self.old.group.now }
         ensures same { IsSameServer self.old self.new }
         ensures serves { let t = senses_of S.Service E.Broadcast C.Coin L.Link K.Sink A.Archive in
-            (head : List ℕ) (before : D) (w : Setting) (numbers : List ℕ) → HouseStands t.layers w [] numbers house.old nobody no_peers
-            → AllByRecursion (IsServed w) (P.items recovered) → A.stands head before (reverse (P.items recovered)) self.old.archive.now self.old.disk.now []
+            (head : List ℕ) (before : D) (w : Setting) (numbers : List ℕ)
+            → HouseStands t.layers w [] numbers house.old nobody no_peers
+            → AllByRecursion (IsServed w) (P.items recovered)
+            → A.stands head before (reverse
+            (P.items recovered)) self.old.archive.now self.old.disk.now []
             → self.old.pace.taken ≡ 0
-            → ServesAgain t.layers w (reverse (P.items recovered)) numbers house.new.replicas.items t.tells
+            → ServesAgain t.layers w (reverse
+            (P.items recovered)) numbers house.new.replicas.items t.tells
             (outs_of K.Sink L.Link self.old.tape.now self.old.link.now)
             (t.moment head before (reverse (P.items recovered)) self.new)
             result self.new.pace.until self.new.pace.limit }

@@ -22,7 +22,8 @@ use ritas_base::{Bytes, Coin, Event, Mem};
 use ritas_core::Answer;
 use std::alloc::Global;
 
-/// The request that a message is at a replica; of one that is too short for a request's front the numbers are 0.
+/// The request that a message is at a replica; of one that is too short for a request's front the
+/// numbers are 0.
 pub(crate) fn asked_in(at: u8, bytes: &[u8]) -> Asked
     ensures asked { result ≡ asked_in at bytes.now }
 {
@@ -54,7 +55,8 @@ fn request_of(at: u8, bytes: &[u8]) -> Option<Asked>
     })
 }
 
-// A message of a client to a replica: the request that it is there, the connection by which it came, if there is one, and its bytes.
+// A message of a client to a replica: the request that it is there, the connection by which it
+// came, if there is one, and its bytes.
 #[derive(Drop)]
 struct Message {
     asked: Asked,
@@ -67,7 +69,8 @@ fn reply(output: &mut Output, conn: Option<u32>, bytes: ReplyBytes) -> Result<()
     ensures replies { (at : _) → OnOk result (map (reply_by at) output.new.replies.items
         ≡ map (reply_by at) output.old.replies.items ++ reply at (bytes_said bytes) conn) }
     ensures memory { OnErr result (conn ≢ None) }
-    ensures same { (output.new.at ≡ output.old.at) × (output.new.event ≡ output.old.event) × (output.new.frames ≡ output.old.frames)
+    ensures same { (output.new.at ≡ output.old.at) × (output.new.event ≡ output.old.event)
+        × (output.new.frames ≡ output.old.frames)
         × (output.new.more ≡ output.old.more) × (output.new.kept ≡ output.old.kept) }
 {
     if let Some(conn) = conn {
@@ -102,7 +105,8 @@ impl<S: Service, E: Broadcast, C: Coin + Drop> House<S, E, C> {
     ghost use Rattle.node_loop.specs.Served.{AreHere, MayBegin};
     ghost use Rattle.node_loop.specs.Standing.{HouseStands, ComesOut, IsEmptyOutput, is_answer_opened};
 
-    // A message is an input of the replica at a place: what is refused is replied to, and what is taken waits for its row.
+    // A message is an input of the replica at a place: what is refused is replied to, and what is
+    // taken waits for its row.
     fn submit(
         &mut self,
         alloc: Global,
@@ -111,11 +115,15 @@ impl<S: Service, E: Broadcast, C: Coin + Drop> House<S, E, C> {
         output: &mut Output,
     ) -> Result<(), Mem>
         ensures comes { let m = meaning_of S.Service E.Broadcast C.Coin in
-            (w : Setting) (es : List Event) (numbers : List ℕ) (ws : Waiting) (p : Peers) → HouseStands m w es numbers self.old ws p
-            → slice_get numbers place ≡ Some output.old.at → IsEmptyOutput output.old → message.asked ≡ asked_in output.old.at message.bytes
+            (w : Setting) (es : List Event) (numbers : List ℕ) (ws : Waiting) (p : Peers)
+            → HouseStands m w es numbers self.old ws p
+            → slice_get numbers place ≡ Some output.old.at → IsEmptyOutput output.old
+            → message.asked ≡ asked_in output.old.at message.bytes
             → let did = submitted w es output.old.at message.conn message.bytes ws in
-            OnOk result (ComesOut m w es numbers self.new output.new did (nothing_more (keep_all (frames_made_by w es did.event) p))) }
-        ensures sized { length message.bytes < 2 ^ 16 → OnOk result (IfSome output.new.event IsSized) }
+            OnOk result (ComesOut m w es numbers self.new output.new did
+            (nothing_more (keep_all (frames_made_by w es did.event) p))) }
+        ensures sized { length message.bytes < 2 ^ 16
+            → OnOk result (IfSome output.new.event IsSized) }
     {
         let Message { asked, conn, bytes } = message;
         let count = self.rows_at(place);
@@ -142,7 +150,8 @@ impl<S: Service, E: Broadcast, C: Coin + Drop> House<S, E, C> {
     // The position of a request in the log of the replica at a place.
     fn position_at(&self, place: usize, asked: Asked) -> Option<u32>
         ensures position { let m = meaning_of S.Service E.Broadcast C.Coin in
-            (w : Setting) (es : List Event) (numbers : List ℕ) (at : ℕ) → AreHere m w es numbers self.now.replicas.items
+            (w : Setting) (es : List Event) (numbers : List ℕ) (at : ℕ)
+            → AreHere m w es numbers self.now.replicas.items
             → slice_get numbers place ≡ Some at
             → result ≡ position_of (rows_at w es at) asked.client asked.request }
     {
@@ -161,12 +170,17 @@ impl<S: Service, E: Broadcast, C: Coin + Drop> House<S, E, C> {
         output: &mut Output,
     ) -> Result<(), Mem>
         ensures comes { let m = meaning_of S.Service E.Broadcast C.Coin in
-            (w : Setting) (es : List Event) (numbers : List ℕ) (ws : Waiting) (p : Peers) → HouseStands m w es numbers self.old ws p
-            → slice_get numbers place ≡ Some output.old.at → IsEmptyOutput output.old → message.asked ≡ asked_in output.old.at message.bytes
+            (w : Setting) (es : List Event) (numbers : List ℕ) (ws : Waiting) (p : Peers)
+            → HouseStands m w es numbers self.old ws p
+            → slice_get numbers place ≡ Some output.old.at → IsEmptyOutput output.old
+            → message.asked ≡ asked_in output.old.at message.bytes
             → let did = asked_so w es output.old.at message.conn message.bytes ws
-            (position_of (rows_at w es output.old.at) (asked_in output.old.at message.bytes).client (asked_in output.old.at message.bytes).request) in
-            OnOk result (ComesOut m w es numbers self.new output.new did (nothing_more (keep_all (frames_made_by w es did.event) p))) }
-        ensures sized { length message.bytes < 2 ^ 16 → IfSome output.old.event IsSized → OnOk result (IfSome output.new.event IsSized) }
+            (position_of (rows_at w es output.old.at) (asked_in output.old.at message.bytes).client
+            (asked_in output.old.at message.bytes).request) in
+            OnOk result (ComesOut m w es numbers self.new output.new did
+            (nothing_more (keep_all (frames_made_by w es did.event) p))) }
+        ensures sized { length message.bytes < 2 ^ 16 → IfSome output.old.event IsSized
+            → OnOk result (IfSome output.new.event IsSized) }
     {
         let asked = message.asked;
         if let Some(position) = self.position_at(place, asked) {
@@ -179,8 +193,8 @@ impl<S: Service, E: Broadcast, C: Coin + Drop> House<S, E, C> {
         self.submit(alloc, place, message, output)
     }
 
-    // A query comes to the replica at a place: a connection is given the piece of its log from a position on. The one error is want of
-    // memory.
+    // A query comes to the replica at a place: a connection is given the piece of its log from a
+    // position on. The one error is want of memory.
     fn query(
         &self,
         alloc: Global,
@@ -190,11 +204,14 @@ impl<S: Service, E: Broadcast, C: Coin + Drop> House<S, E, C> {
         output: &mut Output,
     ) -> Result<(), Mem>
         ensures comes { let m = meaning_of S.Service E.Broadcast C.Coin in
-            (w : Setting) (es : List Event) (numbers : List ℕ) (ws : Waiting) (p : Peers) → HouseStands m w es numbers self.now ws p
+            (w : Setting) (es : List Event) (numbers : List ℕ) (ws : Waiting) (p : Peers)
+            → HouseStands m w es numbers self.now ws p
             → slice_get numbers place ≡ Some output.old.at → IsEmptyOutput output.old
-            → OnOk result (ComesOut m w es numbers self.now output.new (queried w es output.old.at conn position ws) (nothing_more p)) }
+            → OnOk result (ComesOut m w es numbers self.now output.new
+            (queried w es output.old.at conn position ws) (nothing_more p)) }
         ensures fits { let m = meaning_of S.Service E.Broadcast C.Coin in
-            (w : Setting) (es : List Event) (numbers : List ℕ) → AreHere m w es numbers self.now.replicas.items
+            (w : Setting) (es : List Event) (numbers : List ℕ)
+            → AreHere m w es numbers self.now.replicas.items
             → slice_get numbers place ≡ Some output.old.at
             → (position < 4294967296) × HaveFourBytes (rows_at w es output.old.at) }
         ensures none { OnOk result (output.new.event ≡ output.old.event) }
@@ -219,11 +236,14 @@ impl<S: Service, E: Broadcast, C: Coin + Drop> House<S, E, C> {
         output: &mut Output,
     ) -> Result<(), Mem>
         ensures comes { let m = meaning_of S.Service E.Broadcast C.Coin in
-            (w : Setting) (es : List Event) (numbers : List ℕ) (ws : Waiting) (p : Peers) → HouseStands m w es numbers self.old ws p
+            (w : Setting) (es : List Event) (numbers : List ℕ) (ws : Waiting) (p : Peers)
+            → HouseStands m w es numbers self.old ws p
             → slice_get numbers place ≡ Some output.old.at → IsEmptyOutput output.old
             → let did = asks_so w es output.old.at conn bytes ws (request_in bytes) in
-            OnOk result (ComesOut m w es numbers self.new output.new did (nothing_more (keep_all (frames_made_by w es did.event) p))) }
-        ensures sized { length bytes < 2 ^ 16 → IfSome output.old.event IsSized → OnOk result (IfSome output.new.event IsSized) }
+            OnOk result (ComesOut m w es numbers self.new output.new did
+            (nothing_more (keep_all (frames_made_by w es did.event) p))) }
+        ensures sized { length bytes < 2 ^ 16 → IfSome output.old.event IsSized
+            → OnOk result (IfSome output.new.event IsSized) }
     {
         let at = output.at;
         match request_of(at, bytes.as_slice()) {
@@ -245,11 +265,14 @@ impl<S: Service, E: Broadcast, C: Coin + Drop> House<S, E, C> {
         output: &mut Output,
     ) -> Result<(), Mem>
         ensures comes { let m = meaning_of S.Service E.Broadcast C.Coin in
-            (w : Setting) (es : List Event) (numbers : List ℕ) (ws : Waiting) (p : Peers) → HouseStands m w es numbers self.old ws p
+            (w : Setting) (es : List Event) (numbers : List ℕ) (ws : Waiting) (p : Peers)
+            → HouseStands m w es numbers self.old ws p
             → let did = if_here w at (asks w es at conn bytes ws) ws in
-            OnOk result (ComesOut m w es numbers self.new output.new did (nothing_more (keep_all (frames_made_by w es did.event) p))) }
+            OnOk result (ComesOut m w es numbers self.new output.new did
+            (nothing_more (keep_all (frames_made_by w es did.event) p))) }
         ensures fits { let m = meaning_of S.Service E.Broadcast C.Coin in
-            (w : Setting) (es : List Event) (numbers : List ℕ) → AreHere m w es numbers self.old.replicas.items
+            (w : Setting) (es : List Event) (numbers : List ℕ)
+            → AreHere m w es numbers self.old.replicas.items
             → FitsPiece w es at bytes }
         ensures sized { length bytes < 2 ^ 16 → OnOk result (IfSome output.new.event IsSized) }
     {
@@ -263,12 +286,15 @@ impl<S: Service, E: Broadcast, C: Coin + Drop> House<S, E, C> {
         }
     }
 
-    // A note comes to the replica at a place: what is acknowledged isn't kept any more, or what is kept is to go out again.
+    // A note comes to the replica at a place: what is acknowledged isn't kept any more, or what is
+    // kept is to go out again.
     fn note(&mut self, place: usize, bytes: &[u8], output: &mut Output)
         ensures comes { let m = meaning_of S.Service E.Broadcast C.Coin in
-            (w : Setting) (es : List Event) (numbers : List ℕ) (ws : Waiting) (p : Peers) → HouseStands m w es numbers self.old ws p
+            (w : Setting) (es : List Event) (numbers : List ℕ) (ws : Waiting) (p : Peers)
+            → HouseStands m w es numbers self.old ws p
             → slice_get numbers place ≡ Some output.old.at → IsEmptyOutput output.old
-            → ComesOut m w es numbers self.new output.new (silent [] ws) (noted_so output.old.at p (noted (w.keys output.old.at) bytes.now)) }
+            → ComesOut m w es numbers self.new output.new (silent [] ws)
+            (noted_so output.old.at p (noted (w.keys output.old.at) bytes.now)) }
         ensures none { output.new.event ≡ output.old.event }
     {
         noted_from_peer();
@@ -289,9 +315,11 @@ impl<S: Service, E: Broadcast, C: Coin + Drop> House<S, E, C> {
     // A peer is marked at the replica at a place, as that stands now.
     fn mark(&mut self, place: usize, peer: u8)
         ensures marks { let m = meaning_of S.Service E.Broadcast C.Coin in
-            (w : Setting) (es : List Event) (numbers : List ℕ) (ws : Waiting) (p : Peers) (at : ℕ) → HouseStands m w es numbers self.old ws p
+            (w : Setting) (es : List Event) (numbers : List ℕ) (ws : Waiting) (p : Peers) (at : ℕ)
+            → HouseStands m w es numbers self.old ws p
             → slice_get numbers place ≡ Some at
-            → HouseStands m w es numbers self.new ws (with_mark at peer (Some (mark_at w es at peer)) p) }
+            → HouseStands m w es numbers self.new ws
+            (with_mark at peer (Some (mark_at w es at peer)) p) }
     {
         if let Some(replica) = self.replicas.get(place) {
             let mark = mark_of(replica, peer);
@@ -304,10 +332,13 @@ impl<S: Service, E: Broadcast, C: Coin + Drop> House<S, E, C> {
     // The note that the replica at a place took the frame of this number is to go to its sender.
     fn acknowledge(&self, place: usize, frame: FrameHeader, output: &mut Output)
         ensures note { let m = meaning_of S.Service E.Broadcast C.Coin in
-            (w : Setting) (es : List Event) (numbers : List ℕ) (at : ℕ) → AreHere m w es numbers self.now.replicas.items
+            (w : Setting) (es : List Event) (numbers : List ℕ) (at : ℕ)
+            → AreHere m w es numbers self.now.replicas.items
             → slice_get numbers place ≡ Some at
-            → frame.from < w.numbers.n → output.new.more ≡ mores.Note frame.from (ack_note (w.keys at) frame.from frame.seq) }
-        ensures same { (output.new.at ≡ output.old.at) × (output.new.event ≡ output.old.event) × (output.new.frames ≡ output.old.frames)
+            → frame.from < w.numbers.n
+            → output.new.more ≡ mores.Note frame.from (ack_note (w.keys at) frame.from frame.seq) }
+        ensures same { (output.new.at ≡ output.old.at) × (output.new.event ≡ output.old.event)
+            × (output.new.frames ≡ output.old.frames)
             × (output.new.replies ≡ output.old.replies) × (output.new.kept ≡ output.old.kept) }
     {
         if let Some(replica) = self.replicas.get(place) {
@@ -321,7 +352,8 @@ impl<S: Service, E: Broadcast, C: Coin + Drop> House<S, E, C> {
         }
     }
 
-    // What a frame was answered is for its sender: where it opened, that it was taken, or a mark where it is to come again.
+    // What a frame was answered is for its sender: where it opened, that it was taken, or a mark
+    // where it is to come again.
     fn respond(
         &mut self,
         place: usize,
@@ -329,18 +361,27 @@ impl<S: Service, E: Broadcast, C: Coin + Drop> House<S, E, C> {
         answer: Result<Answer, Refusal>,
         output: &mut Output,
     )
-        ensures none { is_answer_opened answer ≡ false → (self.new ≡ self.old) × (output.new.more ≡ output.old.more) }
+        ensures none { is_answer_opened answer ≡ false → (self.new ≡ self.old)
+            × (output.new.more ≡ output.old.more) }
         ensures marks { let m = meaning_of S.Service E.Broadcast C.Coin in
-            (w : Setting) (es : List Event) (numbers : List ℕ) (ws : Waiting) (p : Peers) (at : ℕ) → HouseStands m w es numbers self.old ws p
-            → slice_get numbers place ≡ Some at → is_answer_opened answer ≡ true → is_deferred (seen_answer answer) ≡ true
-            → IfSome carried (λ frame. HouseStands m w es numbers self.new ws (with_mark at frame.from (Some (mark_at w es at frame.from)) p)
+            (w : Setting) (es : List Event) (numbers : List ℕ) (ws : Waiting) (p : Peers) (at : ℕ)
+            → HouseStands m w es numbers self.old ws p
+            → slice_get numbers place ≡ Some at → is_answer_opened answer ≡ true
+            → is_deferred (seen_answer answer) ≡ true
+            → IfSome carried (λ frame. HouseStands m w es numbers self.new ws
+            (with_mark at frame.from (Some (mark_at w es at frame.from)) p)
             × (output.new.more ≡ output.old.more)) }
         ensures takes { let m = meaning_of S.Service E.Broadcast C.Coin in
-            (w : Setting) (es : List Event) (numbers : List ℕ) (at : ℕ) → AreHere m w es numbers self.old.replicas.items
-            → slice_get numbers place ≡ Some at → is_answer_opened answer ≡ true → is_deferred (seen_answer answer) ≡ false
+            (w : Setting) (es : List Event) (numbers : List ℕ) (at : ℕ)
+            → AreHere m w es numbers self.old.replicas.items
+            → slice_get numbers place ≡ Some at → is_answer_opened answer ≡ true
+            → is_deferred (seen_answer answer) ≡ false
             → IfSome carried (λ frame. frame.from < w.numbers.n
-            → (self.new ≡ self.old) × (output.new.more ≡ mores.Note frame.from (ack_note (w.keys at) frame.from frame.seq))) }
-        ensures same { (output.new.at ≡ output.old.at) × (output.new.event ≡ output.old.event) × (output.new.frames ≡ output.old.frames)
+            → (self.new ≡ self.old)
+            × (output.new.more ≡ mores.Note frame.from
+            (ack_note (w.keys at) frame.from frame.seq))) }
+        ensures same { (output.new.at ≡ output.old.at) × (output.new.event ≡ output.old.event)
+            × (output.new.frames ≡ output.old.frames)
             × (output.new.replies ≡ output.old.replies) × (output.new.kept ≡ output.old.kept) }
     {
         match carried {
@@ -355,8 +396,8 @@ impl<S: Service, E: Broadcast, C: Coin + Drop> House<S, E, C> {
         }
     }
 
-    // A frame comes to the replica at a place. Where it opens its sender is told that it was taken, or is marked where it is to come
-    // again.
+    // A frame comes to the replica at a place. Where it opens its sender is told that it was taken,
+    // or is marked where it is to come again.
     fn frame(
         &mut self,
         alloc: Global,
@@ -365,10 +406,13 @@ impl<S: Service, E: Broadcast, C: Coin + Drop> House<S, E, C> {
         output: &mut Output,
     ) -> Result<(), Mem>
         ensures comes { let m = meaning_of S.Service E.Broadcast C.Coin in
-            (w : Setting) (es : List Event) (numbers : List ℕ) (ws : Waiting) (p : Peers) (at : ℕ) → HouseStands m w es numbers self.old ws p
+            (w : Setting) (es : List Event) (numbers : List ℕ) (ws : Waiting) (p : Peers) (at : ℕ)
+            → HouseStands m w es numbers self.old ws p
             → at ≡ output.old.at → slice_get numbers place ≡ Some at → IsEmptyOutput output.old
-            → OnOk result (ComesOut m w es numbers self.new output.new (event_called w es at (Frame at bytes) ws)
-            (opened_so w es at bytes (keep_all (frames_made_by w es (Some (Frame at bytes))) p) (opening (w.keys at) bytes))) }
+            → OnOk result (ComesOut m w es numbers self.new output.new
+            (event_called w es at (Frame at bytes) ws)
+            (opened_so w es at bytes (keep_all (frames_made_by w es (Some (Frame at bytes))) p)
+            (opening (w.keys at) bytes))) }
         ensures sized { length bytes < 2 ^ 16 → OnOk result (IfSome output.new.event IsSized) }
     {
         opened_parts();
@@ -389,10 +433,12 @@ impl<S: Service, E: Broadcast, C: Coin + Drop> House<S, E, C> {
     // A frame or a note comes to a replica, if that is here. The one error is want of memory.
     fn hear(&mut self, alloc: Global, to: u8, bytes: Bytes, output: &mut Output) -> Result<(), Mem>
         ensures comes { let m = meaning_of S.Service E.Broadcast C.Coin in
-            (w : Setting) (es : List Event) (numbers : List ℕ) (ws : Waiting) (p : Peers) → HouseStands m w es numbers self.old ws p
+            (w : Setting) (es : List Event) (numbers : List ℕ) (ws : Waiting) (p : Peers)
+            → HouseStands m w es numbers self.old ws p
             → let did = item_does w es (items.Frame to bytes) ws in
             OnOk result (ComesOut m w es numbers self.new output.new did
-            (item_brings w es (items.Frame to bytes) (keep_all (frames_made_by w es did.event) p))) }
+            (item_brings w es (items.Frame to bytes)
+            (keep_all (frames_made_by w es did.event) p))) }
         ensures sized { length bytes < 2 ^ 16 → OnOk result (IfSome output.new.event IsSized) }
     {
         output.clear(to);
@@ -409,8 +455,10 @@ impl<S: Service, E: Broadcast, C: Coin + Drop> House<S, E, C> {
     // A peer of a replica has a connection: what is kept for it is to go out again.
     fn up(&mut self, at: u8, peer: u8, output: &mut Output)
         ensures comes { let m = meaning_of S.Service E.Broadcast C.Coin in
-            (w : Setting) (es : List Event) (numbers : List ℕ) (ws : Waiting) (p : Peers) → HouseStands m w es numbers self.old ws p
-            → ComesOut m w es numbers self.new output.new (silent [] ws) (item_brings w es (items.Up at peer) p) }
+            (w : Setting) (es : List Event) (numbers : List ℕ) (ws : Waiting) (p : Peers)
+            → HouseStands m w es numbers self.old ws p
+            → ComesOut m w es numbers self.new output.new (silent [] ws)
+            (item_brings w es (items.Up at peer) p) }
         ensures none { output.new.event ≡ None }
     {
         output.clear(at);
@@ -433,11 +481,14 @@ impl<S: Service, E: Broadcast, C: Coin + Drop> House<S, E, C> {
     ) -> Result<(), Mem>
         requires short { length (bytes_of item) < 2 ^ 16 }
         ensures comes { let m = meaning_of S.Service E.Broadcast C.Coin in
-            (w : Setting) (es : List Event) (numbers : List ℕ) (ws : Waiting) (p : Peers) → HouseStands m w es numbers self.old ws p
+            (w : Setting) (es : List Event) (numbers : List ℕ) (ws : Waiting) (p : Peers)
+            → HouseStands m w es numbers self.old ws p
             → let did = item_does w es item ws in
-            OnOk result (ComesOut m w es numbers self.new output.new did (item_brings w es item (keep_all (frames_made_by w es did.event) p))) }
+            OnOk result (ComesOut m w es numbers self.new output.new did
+            (item_brings w es item (keep_all (frames_made_by w es did.event) p))) }
         ensures fits { let m = meaning_of S.Service E.Broadcast C.Coin in
-            (w : Setting) (es : List Event) (numbers : List ℕ) → AreHere m w es numbers self.old.replicas.items
+            (w : Setting) (es : List Event) (numbers : List ℕ)
+            → AreHere m w es numbers self.old.replicas.items
             → ItemFits w es item }
         ensures sized { OnOk result (IfSome output.new.event IsSized) }
     {
@@ -460,7 +511,8 @@ impl<S: Service, E: Broadcast, C: Coin + Drop> House<S, E, C> {
         }
     }
 
-    /// One of the items with which serving begins, which gets no reply. The one error is want of memory.
+    /// One of the items with which serving begins, which gets no reply. The one error is want of
+    /// memory.
     pub(crate) fn begin(
         &mut self,
         alloc: Global,
@@ -469,9 +521,11 @@ impl<S: Service, E: Broadcast, C: Coin + Drop> House<S, E, C> {
     ) -> Result<(), Mem>
         requires first { MayBegin item.now }
         ensures comes { let m = meaning_of S.Service E.Broadcast C.Coin in
-            (w : Setting) (es : List Event) (numbers : List ℕ) (ws : Waiting) (p : Peers) → HouseStands m w es numbers self.old ws p
+            (w : Setting) (es : List Event) (numbers : List ℕ) (ws : Waiting) (p : Peers)
+            → HouseStands m w es numbers self.old ws p
             → let did = first_does w es item.now ws in
-            OnOk result (ComesOut m w es numbers self.new output.new did (nothing_more (keep_all (frames_made_by w es did.event) p))) }
+            OnOk result (ComesOut m w es numbers self.new output.new did
+            (nothing_more (keep_all (frames_made_by w es did.event) p))) }
         ensures sized { OnOk result (IfSome output.new.event IsSized) }
     {
         match item {

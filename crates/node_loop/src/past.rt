@@ -17,10 +17,13 @@ use std::alloc::Global;
 fn hand_on<K: Sink>(tape: &mut K, piece: &mut Buffer) -> Result<(), Failed>
     ensures empty { OnOk result (piece.new.taken ≡ []) }
     ensures whole { OnOk result ((K.faults tape.new ≡ K.faults tape.old)
-        × (K.tells ≡ true → (base text : List ℕ) → TookAllBut base (K.taken tape.old) text piece.old.taken
+        × (K.tells ≡ true → (base text : List ℕ)
+        → TookAllBut base (K.taken tape.old) text piece.old.taken
         → TookAllBut base (K.taken tape.new) text [])) }
-    ensures front { OnErr result ((K.faults tape.new ≡ count_after (K.faults tape.old)) × (K.faults tape.old ≤ K.faults tape.new)
-        × (K.tells ≡ true → (base text : List ℕ) → TookAllBut base (K.taken tape.old) text piece.old.taken
+    ensures front { OnErr result ((K.faults tape.new ≡ count_after (K.faults tape.old))
+        × (K.faults tape.old ≤ K.faults tape.new)
+        × (K.tells ≡ true → (base text : List ℕ)
+        → TookAllBut base (K.taken tape.old) text piece.old.taken
         → TookFront base (K.taken tape.new) text)) }
 {
     write_all(tape, piece.taken())?;
@@ -28,14 +31,18 @@ fn hand_on<K: Sink>(tape: &mut K, piece: &mut Buffer) -> Result<(), Failed>
     Ok(())
 }
 
-// An event joins a piece. Where there is no memory for it, the piece goes to the tape, and then the event by itself.
+// An event joins a piece. Where there is no memory for it, the piece goes to the tape, and then the
+// event by itself.
 fn join<K: Sink>(tape: &mut K, piece: &mut Buffer, event: &Event) -> Result<(), Failed>
     requires sized { IsSized event.now }
     ensures whole { OnOk result ((K.faults tape.new ≡ K.faults tape.old)
-        × (K.tells ≡ true → (base text : List ℕ) → TookAllBut base (K.taken tape.old) text piece.old.taken
+        × (K.tells ≡ true → (base text : List ℕ)
+        → TookAllBut base (K.taken tape.old) text piece.old.taken
         → TookAllBut base (K.taken tape.new) (text ++ event_text event.now) piece.new.taken)) }
-    ensures front { OnErr result ((K.faults tape.new ≡ count_after (K.faults tape.old)) × (K.faults tape.old ≤ K.faults tape.new)
-        × (K.tells ≡ true → (base text : List ℕ) → TookAllBut base (K.taken tape.old) text piece.old.taken
+    ensures front { OnErr result ((K.faults tape.new ≡ count_after (K.faults tape.old))
+        × (K.faults tape.old ≤ K.faults tape.new)
+        × (K.tells ≡ true → (base text : List ℕ)
+        → TookAllBut base (K.taken tape.old) text piece.old.taken
         → TookFront base (K.taken tape.new) (text ++ event_text event.now))) }
 {
     let before = piece.len();
@@ -51,10 +58,13 @@ fn join<K: Sink>(tape: &mut K, piece: &mut Buffer, event: &Event) -> Result<(), 
 fn put<K: Sink>(tape: &mut K, piece: &mut Buffer, event: &Event) -> Result<(), Failed>
     requires sized { IsSized event.now }
     ensures whole { OnOk result ((K.faults tape.new ≡ K.faults tape.old)
-        × (K.tells ≡ true → (base text : List ℕ) → TookAllBut base (K.taken tape.old) text piece.old.taken
+        × (K.tells ≡ true → (base text : List ℕ)
+        → TookAllBut base (K.taken tape.old) text piece.old.taken
         → TookAllBut base (K.taken tape.new) (text ++ event_text event.now) piece.new.taken)) }
-    ensures front { OnErr result ((K.faults tape.new ≡ count_after (K.faults tape.old)) × (K.faults tape.old ≤ K.faults tape.new)
-        × (K.tells ≡ true → (base text : List ℕ) → TookAllBut base (K.taken tape.old) text piece.old.taken
+    ensures front { OnErr result ((K.faults tape.new ≡ count_after (K.faults tape.old))
+        × (K.faults tape.old ≤ K.faults tape.new)
+        × (K.tells ≡ true → (base text : List ℕ)
+        → TookAllBut base (K.taken tape.old) text piece.old.taken
         → TookFront base (K.taken tape.new) (text ++ event_text event.now))) }
 {
     join(tape, piece, event)?;
@@ -64,7 +74,8 @@ fn put<K: Sink>(tape: &mut K, piece: &mut Buffer, event: &Event) -> Result<(), F
     hand_on(tape, piece)
 }
 
-/// Writes these events to the tape, the oldest first, in pieces of many events. Where memory runs out a piece has fewer.
+/// Writes these events to the tape, the oldest first, in pieces of many events. Where memory runs
+/// out a piece has fewer.
 pub(crate) fn write_events<K: Sink>(
     alloc: Global,
     tape: &mut K,
@@ -72,9 +83,12 @@ pub(crate) fn write_events<K: Sink>(
 ) -> Result<(), Failed>
     requires sized { AllByRecursion IsSized events.now }
     ensures whole { OnOk result ((K.faults tape.new ≡ K.faults tape.old)
-        × (K.tells ≡ true → K.taken tape.new ≡ K.taken tape.old ++ events_text (reverse events.now))) }
-    ensures front { OnErr result ((K.faults tape.new ≡ count_after (K.faults tape.old)) × (K.faults tape.old ≤ K.faults tape.new)
-        × (K.tells ≡ true → TookFront (K.taken tape.old) (K.taken tape.new) (events_text (reverse events.now)))) }
+        × (K.tells ≡ true → K.taken tape.new
+        ≡ K.taken tape.old ++ events_text (reverse events.now))) }
+    ensures front { OnErr result ((K.faults tape.new ≡ count_after (K.faults tape.old))
+        × (K.faults tape.old ≤ K.faults tape.new)
+        × (K.tells ≡ true → TookFront (K.taken tape.old) (K.taken tape.new)
+        (events_text (reverse events.now)))) }
 {
     let mut piece = Buffer::new(alloc);
     for event in events {

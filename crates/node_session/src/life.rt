@@ -58,11 +58,15 @@ fn live_as<R: Net + Wait, S: Service, E: Broadcast, L: Link, K: Sink, D: Disk>(
     requires live { life.old.journal.live ≡ true }
     requires own { AllByRecursion (IsRecord life.old.journal.me) recovered.items }
     requires member { has_member life.old.session.header.correct life.old.journal.me ≡ true }
-    ensures served { (head : List ℕ) → OpenedAs D.Disk head (reverse recovered.items) life.old.journal disk.old
-        → IfOk result (λ end. ServesLife life.old.session (reverse recovered.items) (setting_by S.rules E.rules life.old.session.header) (tells_of K.Sink L.Link)
+    ensures served { (head : List ℕ)
+        → OpenedAs D.Disk head (reverse recovered.items) life.old.journal disk.old
+        → IfOk result (λ end. ServesLife life.old.session (reverse recovered.items)
+        (setting_by S.rules E.rules life.old.session.header) (tells_of K.Sink L.Link)
         (outs_of K.Sink L.Link output.old link.old)
-        (journal_moment D.Disk head (reverse recovered.items) life.old.journal.me disk.old (outs_of K.Sink L.Link output.new link.new) life.new.journal disk.new) end) }
-    ensures unserved { OnErr result ((output.new ≡ output.old) × (link.new ≡ link.old) × (disk.new ≡ disk.old)) }
+        (journal_moment D.Disk head (reverse recovered.items) life.old.journal.me disk.old
+        (outs_of K.Sink L.Link output.new link.new) life.new.journal disk.new) end) }
+    ensures unserved { OnErr result ((output.new ≡ output.old) × (link.new ≡ link.old)
+        × (disk.new ≡ disk.old)) }
 {
     events_fit();
     acts_are_deeds();
@@ -100,12 +104,12 @@ fn live_as<R: Net + Wait, S: Service, E: Broadcast, L: Link, K: Sink, D: Disk>(
     Ok(close(output, end))
 }
 
-/// Serves a life of a replica, after the events that its journal kept of the lives before, the oldest first, as `serve_session` does one without a
-/// journal.
+/// Serves a life of a replica, after the events that its journal kept of the lives before, the
+/// oldest first, as `serve_session` does one without a journal.
 ///
-/// The output takes the header, the events that were kept, and then each event before the frames that it makes are sent
-/// (`node_loop::serve_kept`). The one error is want of memory for the replica: then nothing is written, and neither the link nor the disk is
-/// touched.
+/// The output takes the header, the events that were kept, and then each event before the frames
+/// that it makes are sent (`node_loop::serve_kept`). The one error is want of memory for the
+/// replica: then nothing is written, and neither the link nor the disk is touched.
 pub(crate) fn serve_life<R: Net + Wait, L: Link, K: Sink, D: Disk>(
     rt: &R,
     alloc: Global,
@@ -119,11 +123,15 @@ pub(crate) fn serve_life<R: Net + Wait, L: Link, K: Sink, D: Disk>(
     requires live { life.old.journal.live ≡ true }
     requires own { AllByRecursion (IsRecord life.old.journal.me) recovered.items }
     requires member { has_member life.old.session.header.correct life.old.journal.me ≡ true }
-    ensures served { (head : List ℕ) → OpenedAs D.Disk head (reverse recovered.items) life.old.journal disk.old
-        → IfOk result (λ end. ServesLife life.old.session (reverse recovered.items) (setting_of life.old.session.header) (tells_of K.Sink L.Link)
+    ensures served { (head : List ℕ)
+        → OpenedAs D.Disk head (reverse recovered.items) life.old.journal disk.old
+        → IfOk result (λ end. ServesLife life.old.session (reverse recovered.items)
+        (setting_of life.old.session.header) (tells_of K.Sink L.Link)
         (outs_of K.Sink L.Link output.old link.old)
-        (journal_moment D.Disk head (reverse recovered.items) life.old.journal.me disk.old (outs_of K.Sink L.Link output.new link.new) life.new.journal disk.new) end) }
-    ensures unserved { OnErr result ((output.new ≡ output.old) × (link.new ≡ link.old) × (disk.new ≡ disk.old)) }
+        (journal_moment D.Disk head (reverse recovered.items) life.old.journal.me disk.old
+        (outs_of K.Sink L.Link output.new link.new) life.new.journal disk.new) end) }
+    ensures unserved { OnErr result ((output.new ≡ output.old) × (link.new ≡ link.old)
+        × (disk.new ≡ disk.old)) }
 {
     let form = other_form(&life.session.header.mode);
     if form == 2 {
