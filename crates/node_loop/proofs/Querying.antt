@@ -1,12 +1,15 @@
--- What fits a piece, by whether a message is a query.
+-- What fits a piece, by whether a message is a query; and where a request may want memory.
 use Rattle.std.proofs.Common.{◌≡◌, ℕ, ◌<◌, true, List, Option, Some, None, sym, subst}
 use Rattle.std.specs.Option.{IfSome}
 use Rattle.ritas_base.specs.declared.event.Event.{Event}
-use Rattle.client_port.specs.Messages.{query_in}
+use Rattle.client_port.specs.Messages.{Request, query_in}
 use Rattle.command_log.specs.Index.{HaveFourBytes}
 use Rattle.world_model.specs.World.{Setting}
 use Rattle.world_model.specs.Agree.{rows_at}
+use Rattle.node_loop.specs.Calls.{asked_in}
 use Rattle.node_loop.specs.Queries.{FitsPiece}
+use Rattle.node_loop.specs.Waiting.{Waiting}
+use Rattle.node_loop.specs.Wanting.{WaitMayWant, RequestMayWant}
 
 -- a position and a log in a piece
 abbrev pub FitsAt : Setting → List Event → ℕ → Option ℕ → Type 0
@@ -23,3 +26,9 @@ no_query_fits w es at bytes none = λ correct. subst (FitsAt w es at) (sym none)
 pub fits_asked : (w : Setting) (es : List Event) (at : ℕ) (bytes : List ℕ) (position : ℕ) → query_in bytes ≡ Some position → FitsPiece w es at bytes
     → w.is_correct at ≡ true → (position < 4294967296) × HaveFourBytes (rows_at w es at)
 fits_asked w es at bytes position is fits correct = subst (FitsAt w es at) is (fits correct)
+
+-- where its request may want memory, a message may
+pub may_request : (w : Setting) (es : List Event) (at : ℕ) (conn : Option ℕ) (bytes : List ℕ) (ws : Waiting) (r : Option Request)
+    → WaitMayWant w es at conn ws (asked_in at bytes) → RequestMayWant w es at conn bytes ws r
+may_request w es at conn bytes ws None may = tt
+may_request w es at conn bytes ws (Some r) may = may

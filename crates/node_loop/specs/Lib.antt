@@ -9,6 +9,7 @@ pub mod Outs
 pub mod Pieces
 pub mod Told
 pub mod Queries
+pub mod Wanting
 pub mod ToldRows
 pub mod Served
 pub mod PeersStanding

@@ -80,7 +80,7 @@ fn reply(output: &mut Output, conn: Option<u32>, bytes: ReplyBytes) -> Result<()
 }
 
 impl<S: Service, E: Broadcast, C: Coin + Drop> House<S, E, C> {
-    ghost use Rattle.std.specs.Prelude.{◌≡◌, ℕ, ◌<◌, ◌^◌, true, false, List, [], length, None, Some, IfSome, OnOk};
+    ghost use Rattle.std.specs.Prelude.{◌≡◌, ℕ, ◌<◌, ◌^◌, true, false, List, [], length, None, Some, IfSome, OnOk, OnErr};
     ghost use Rattle.std.specs.List.{slice_get};
     ghost use Rattle.ritas_base.specs.declared.event.Event.{Event};
     ghost use Rattle.ritas_base.specs.declared.event.Event.TheVariants.{Frame};
@@ -93,7 +93,7 @@ impl<S: Service, E: Broadcast, C: Coin + Drop> House<S, E, C> {
     ghost use Rattle.node_loop.specs.Meanings.{meaning_of};
     ghost use Rattle.node_loop.specs.Waiting.{Waiting};
     ghost use Rattle.keyed_channel.specs.Frames.{opening};
-    ghost use Rattle.keyed_channel.specs.Notes.{ack_note, noted};
+    ghost use Rattle.keyed_channel.specs.Notes.{ack_note, is_note, noted};
     ghost use Rattle.outside.specs.declared.link.LinkItem.TheVariants as items;
     ghost use Rattle.node_loop.specs.declared.output.More.TheVariants as mores;
     ghost use Rattle.client_port.specs.Messages.{request_in};
@@ -104,9 +104,11 @@ impl<S: Service, E: Broadcast, C: Coin + Drop> House<S, E, C> {
     ghost use Rattle.node_loop.specs.Serving.{frames_made_by};
     ghost use Rattle.node_loop.specs.Served.{AreHere, MayBegin};
     ghost use Rattle.node_loop.specs.Standing.{HouseStands, ComesOut, IsEmptyOutput, is_answer_opened};
+    ghost use Rattle.node_loop.specs.Wanting.{WaitMayWant, RequestMayWant, MessageMayWant, ItemMayWant};
 
     // A message is an input of the replica at a place: what is refused is replied to, and what is
-    // taken waits for its row.
+    // taken waits for its row. The replica may want memory anyhow; that it wants none where memory
+    // is ample is tested (`each_is_replied` of `stack_tests`, `cases/floods`).
     fn submit(
         &mut self,
         alloc: Global,
@@ -179,6 +181,11 @@ impl<S: Service, E: Broadcast, C: Coin + Drop> House<S, E, C> {
             (asked_in output.old.at message.bytes).request) in
             OnOk result (ComesOut m w es numbers self.new output.new did
             (nothing_more (keep_all (frames_made_by w es did.event) p))) }
+        ensures memory { let m = meaning_of S.Service E.Broadcast C.Coin in
+            (w : Setting) (es : List Event) (numbers : List ℕ) (ws : Waiting) (p : Peers)
+            → HouseStands m w es numbers self.old ws p
+            → slice_get numbers place ≡ Some output.old.at
+            → OnErr result (WaitMayWant w es output.old.at message.conn ws message.asked) }
         ensures sized { length message.bytes < 2 ^ 16 → IfSome output.old.event IsSized
             → OnOk result (IfSome output.new.event IsSized) }
     {
@@ -194,7 +201,8 @@ impl<S: Service, E: Broadcast, C: Coin + Drop> House<S, E, C> {
     }
 
     // A query comes to the replica at a place: a connection is given the piece of its log from a
-    // position on. The one error is want of memory.
+    // position on. The one error is want of memory, for which a piece may ask anyhow; that it asks
+    // for none where memory is ample is tested (`observing` of `base_tests`, `cases/watch`).
     fn query(
         &self,
         alloc: Global,
@@ -214,6 +222,7 @@ impl<S: Service, E: Broadcast, C: Coin + Drop> House<S, E, C> {
             → AreHere m w es numbers self.now.replicas.items
             → slice_get numbers place ≡ Some output.old.at
             → (position < 4294967296) × HaveFourBytes (rows_at w es output.old.at) }
+        ensures memory { OnErr result (place < length self.now.replicas.items) }
         ensures none { OnOk result (output.new.event ≡ output.old.event) }
     {
         let Some(replica) = self.replicas.get(place) else {
@@ -242,6 +251,11 @@ impl<S: Service, E: Broadcast, C: Coin + Drop> House<S, E, C> {
             → let did = asks_so w es output.old.at conn bytes ws (request_in bytes) in
             OnOk result (ComesOut m w es numbers self.new output.new did
             (nothing_more (keep_all (frames_made_by w es did.event) p))) }
+        ensures memory { let m = meaning_of S.Service E.Broadcast C.Coin in
+            (w : Setting) (es : List Event) (numbers : List ℕ) (ws : Waiting) (p : Peers)
+            → HouseStands m w es numbers self.old ws p
+            → slice_get numbers place ≡ Some output.old.at
+            → OnErr result (RequestMayWant w es output.old.at conn bytes ws (request_in bytes)) }
         ensures sized { length bytes < 2 ^ 16 → IfSome output.old.event IsSized
             → OnOk result (IfSome output.new.event IsSized) }
     {
@@ -270,6 +284,10 @@ impl<S: Service, E: Broadcast, C: Coin + Drop> House<S, E, C> {
             → let did = if_here w at (asks w es at conn bytes ws) ws in
             OnOk result (ComesOut m w es numbers self.new output.new did
             (nothing_more (keep_all (frames_made_by w es did.event) p))) }
+        ensures memory { let m = meaning_of S.Service E.Broadcast C.Coin in
+            (w : Setting) (es : List Event) (numbers : List ℕ) (ws : Waiting) (p : Peers)
+            → HouseStands m w es numbers self.old ws p
+            → OnErr result (MessageMayWant w es at conn bytes ws) }
         ensures fits { let m = meaning_of S.Service E.Broadcast C.Coin in
             (w : Setting) (es : List Event) (numbers : List ℕ)
             → AreHere m w es numbers self.old.replicas.items
@@ -439,6 +457,10 @@ impl<S: Service, E: Broadcast, C: Coin + Drop> House<S, E, C> {
             OnOk result (ComesOut m w es numbers self.new output.new did
             (item_brings w es (items.Frame to bytes)
             (keep_all (frames_made_by w es did.event) p))) }
+        ensures memory { let m = meaning_of S.Service E.Broadcast C.Coin in
+            (w : Setting) (es : List Event) (numbers : List ℕ)
+            → AreHere m w es numbers self.old.replicas.items
+            → OnErr result ((w.is_correct to ≡ true) × (is_note bytes ≡ false)) }
         ensures sized { length bytes < 2 ^ 16 → OnOk result (IfSome output.new.event IsSized) }
     {
         output.clear(to);
@@ -486,6 +508,10 @@ impl<S: Service, E: Broadcast, C: Coin + Drop> House<S, E, C> {
             → let did = item_does w es item ws in
             OnOk result (ComesOut m w es numbers self.new output.new did
             (item_brings w es item (keep_all (frames_made_by w es did.event) p))) }
+        ensures memory { let m = meaning_of S.Service E.Broadcast C.Coin in
+            (w : Setting) (es : List Event) (numbers : List ℕ) (ws : Waiting) (p : Peers)
+            → HouseStands m w es numbers self.old ws p
+            → OnErr result (ItemMayWant w es item ws) }
         ensures fits { let m = meaning_of S.Service E.Broadcast C.Coin in
             (w : Setting) (es : List Event) (numbers : List ℕ)
             → AreHere m w es numbers self.old.replicas.items

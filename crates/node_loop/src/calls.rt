@@ -11,13 +11,14 @@ use ritas_core::Answer;
 use std::alloc::Global;
 
 impl<S: Service, E: Broadcast, C: Coin + Drop> House<S, E, C> {
-    ghost use Rattle.std.specs.Prelude.{◌≡◌, ◌≢◌, ℕ, [], ◌∷◌, ◌++◌, List, true, length, map, Some, IfSome, IfOk, OnOk, OnErr};
+    ghost use Rattle.std.specs.Prelude.{◌≡◌, ◌≢◌, ◌<◌, ℕ, [], ◌∷◌, ◌++◌, List, true, length, map, Some, IfSome, IfOk, OnOk, OnErr};
     ghost use Rattle.std.specs.List.{slice_get};
     ghost use Rattle.ritas_base.specs.declared.event.Event.{Event};
     ghost use Rattle.ritas_base.specs.declared.event.Event.TheVariants.{Turn};
     ghost use Rattle.schedule_file.specs.Spelling.{IsAlone, IsSized};
     ghost use Rattle.world_model.specs.World.{Setting, seen_of, seen_answer};
     ghost use Rattle.world_model.specs.Agree.{rows_at};
+    ghost use Rattle.node_loop.specs.Keeping.{IsCallEvent};
     ghost use Rattle.node_loop.specs.Meanings.{meaning_of};
     ghost use Rattle.node_loop.specs.Waiting.{Waiting};
     ghost use Rattle.node_loop.specs.Calls.{event_called, waiting_left_by, replies_by};
@@ -40,7 +41,9 @@ impl<S: Service, E: Broadcast, C: Coin + Drop> House<S, E, C> {
         }
     }
 
-    /// Makes the call that an event is on the replica at a place, and answers what it answered. The one error is want of memory.
+    /// Makes the call that an event is on the replica at a place, and answers what it answered. The one error is want of memory,
+    /// where the call answered that; no clause says when it does, and that it doesn't where memory is ample is tested
+    /// (`stack_tests`, `cases/floods`).
     pub(crate) fn give(
         &mut self,
         alloc: Global,
@@ -57,6 +60,7 @@ impl<S: Service, E: Broadcast, C: Coin + Drop> House<S, E, C> {
             (w : Setting) (es : List Event) (numbers : List ℕ) (at : ℕ) → AreHere m w es numbers self.old.replicas.items
             → slice_get numbers place ≡ Some at
             → IsAlone at event.now → IfOk result (λ answer. seen_answer answer ≡ seen_of w es event.now) }
+        ensures memory { OnErr result ((place < length self.old.replicas.items) × IsCallEvent event.now) }
         ensures same { (self.new.waiting ≡ self.old.waiting) × (self.new.keepers ≡ self.old.keepers) }
     {
         let Some(replica) = self.replicas.get_mut(place) else {
@@ -137,6 +141,9 @@ impl<S: Service, E: Broadcast, C: Coin + Drop> House<S, E, C> {
             → w.is_correct at ≡ true
             → OnOk result (ComesOut m w es numbers self.new output.new
             (event_called w es at (Turn at) ws) (nothing_more (keep_all (frames_made_by w es (Some (Turn at))) p))) }
+        ensures memory { let m = meaning_of S.Service E.Broadcast C.Coin in
+            (w : Setting) (es : List Event) (numbers : List ℕ) → AreHere m w es numbers self.old.replicas.items
+            → OnErr result (w.is_correct at ≡ true) }
         ensures sized { OnOk result (IfSome output.new.event IsSized) }
     {
         output.clear(at);

@@ -1,6 +1,6 @@
 //! What a tape and a link are given.
-ghost use Rattle.std.specs.Prelude.{◌≡◌, ℕ, ◌<◌, ◌≤◌, ◌++◌, ◌∷◌, List, length, map, [], All, IfSome, IfErr, OnOk, MatchOption};
-ghost use Rattle.std.specs.List.{AllByRecursion};
+ghost use Rattle.std.specs.Prelude.{◌≡◌, ℕ, ◌<◌, ◌≤◌, ◌++◌, ◌∷◌, List, length, map, [], true, All, IfSome, IfErr, OnOk, OnErr, MatchOption};
+ghost use Rattle.std.specs.List.{AllByRecursion, Any};
 ghost use Rattle.ritas_base.specs.declared.event.Event.{Event};
 ghost use Rattle.outside.specs.LinkCalls.{each_act};
 ghost use Rattle.outside.specs.Links.{LinkAct, Replies};
@@ -40,6 +40,9 @@ use std::sync::Wait;
 fn keep_each(resume: &mut Resume, alloc: Global, frames: &[OutFrame]) -> Result<(), Mem>
     ensures keeps { (n i k : ℕ) (p : Peers) → All (λ f. head_length ≤ length f.bytes) frames.now → AreKept n i resume.old p.keeping
         → OnOk result (AreKept n i resume.new (keep_all (map (made_as k i) frames.now) p).keeping) }
+    // Memory may run out only over a frame of a peer.
+    ensures memory { (n i k : ℕ) (p : Peers) → All (λ f. head_length ≤ length f.bytes) frames.now
+        → AreKept n i resume.old p.keeping → OnErr result (Any (λ f. f.to < n) frames.now) }
 {
     for frame in frames {
         keep(resume, alloc, frame.to, frame.bytes.as_slice())?;
@@ -57,6 +60,12 @@ fn keep_frames<S: Service, E: Broadcast, C: Coin + Drop>(
         (w : Setting) (es : List Event) (numbers : List ℕ) (did : Outcome) (more : Brought)
         → ComesOut m w es numbers house.old output.now did more
         → OnOk result (HouseStands m w (onto did.event es) numbers house.new did.waiting more.peers) }
+    // Memory may run out only where a replica that is here has a frame for a peer.
+    ensures memory { let m = meaning_of S.Service E.Broadcast C.Coin in
+        (w : Setting) (es : List Event) (numbers : List ℕ) (did : Outcome) (more : Brought)
+        → ComesOut m w es numbers house.old output.now did more
+        → OnErr result ((w.is_correct output.now.at ≡ true)
+        × Any (λ f. f.to < w.numbers.n) output.now.frames.items) }
 {
     keyed_channel::sealed_length();
     let Some(place) = house.place_of(output.at) else {
@@ -277,7 +286,8 @@ fn more_now<S: Service, E: Broadcast, C: Coin + Drop>(
     more
 }
 
-/// What came of a round joins the group, and its frames are kept for their peers. The one error is want of memory.
+/// What came of a round joins the group, and its frames are kept for their peers. The one error is want of memory, which a
+/// group may have anyhow; that it has none where memory is ample is tested (`stack_tests`, `cases/floods`).
 pub(crate) fn gather<S: Service, E: Broadcast, C: Coin + Drop>(
     alloc: Global,
     house: &mut House<S, E, C>,

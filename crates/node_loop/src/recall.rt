@@ -1,5 +1,6 @@
 //! Events that a journal kept happen again.
-ghost use Rattle.std.specs.Prelude.{◌≡◌, ℕ, ◌≤◌, length, map, OnOk, MatchOption, All};
+ghost use Rattle.std.specs.Prelude.{◌≡◌, ℕ, ◌≤◌, ◌<◌, length, map, OnOk, OnErr, MatchOption, All};
+ghost use Rattle.std.specs.List.{Any};
 ghost use Rattle.keyed_channel.specs.Lengths.{head_length};
 ghost use Rattle.link_resume.specs.Lists.{room_for};
 ghost use Rattle.schedule_file.specs.Spelling.{IsAlone};
@@ -10,6 +11,7 @@ ghost use Rattle.node_loop.specs.Recalling.{waits_again};
 ghost use Rattle.node_loop.specs.Recovering.{keep_newest, all_newest};
 ghost use Rattle.node_loop.specs.WaitersStanding.{IsWaiting};
 ghost use Rattle.node_loop.specs.Waiting.{Waiting};
+ghost use Rattle.node_loop.specs.Wanting.{WaitAgainMayWant};
 
 use crate::asks::asked_in;
 use crate::house::House;
@@ -44,6 +46,8 @@ fn wait_again(
 ) -> Result<(), Mem>
     ensures waits { (ws : Waiting) → IsWaiting waiting.old ws
         → OnOk result (IsWaiting waiting.new (waits_again event.now (seen_answer answer) ws)) }
+    ensures memory { (ws : Waiting) → IsWaiting waiting.old ws
+        → OnErr result (WaitAgainMayWant event.now (seen_answer answer) ws) }
 {
     match event {
         Event::Input { at, bytes } if refusal_in(answer).is_none() => {
@@ -67,6 +71,8 @@ fn make_room(resume: &mut Resume, peer: u8, size: u64)
 fn keep_newest(resume: &mut Resume, alloc: Global, frame: &OutFrame) -> Result<(), Mem>
     ensures keeps { (n i k : ℕ) (p : Peers) → head_length ≤ length frame.now.bytes → AreKept n i resume.old p.keeping
         → OnOk result (AreKept n i resume.new (keep_newest (made_as k i frame.now) p).keeping) }
+    ensures memory { (n i : ℕ) (p : Peers) → AreKept n i resume.old p.keeping
+        → OnErr result ((frame.now.to < n) × (head_length ≤ length frame.now.bytes)) }
 {
     let bytes = frame.bytes.as_slice();
     make_room(resume, frame.to, bytes.len() as u64);
@@ -77,6 +83,8 @@ fn keep_newest(resume: &mut Resume, alloc: Global, frame: &OutFrame) -> Result<(
 fn all_newest(resume: &mut Resume, alloc: Global, frames: &[OutFrame]) -> Result<(), Mem>
     ensures keeps { (n i k : ℕ) (p : Peers) → All (λ f. head_length ≤ length f.bytes) frames.now → AreKept n i resume.old p.keeping
         → OnOk result (AreKept n i resume.new (all_newest (map (made_as k i) frames.now) p).keeping) }
+    ensures memory { (n i k : ℕ) (p : Peers) → All (λ f. head_length ≤ length f.bytes) frames.now
+        → AreKept n i resume.old p.keeping → OnErr result (Any (λ f. f.to < n) frames.now) }
 {
     for frame in frames {
         keep_newest(resume, alloc, frame)?;
@@ -85,7 +93,7 @@ fn all_newest(resume: &mut Resume, alloc: Global, frames: &[OutFrame]) -> Result
 }
 
 impl<S: Service, E: Broadcast, C: Coin + Drop> House<S, E, C> {
-    ghost use Rattle.std.specs.Prelude.{◌≡◌, ℕ, [], ◌∷◌, true, map, reverse, List, Some, OnOk};
+    ghost use Rattle.std.specs.Prelude.{◌≡◌, ◌≢◌, ℕ, [], ◌∷◌, true, map, reverse, List, Some, OnOk, OnErr};
     ghost use Rattle.std.specs.List.{AllByRecursion};
     ghost use Rattle.ritas_base.specs.declared.event.Event.{Event};
     ghost use Rattle.world_model.specs.World.{Setting};
@@ -93,6 +101,7 @@ impl<S: Service, E: Broadcast, C: Coin + Drop> House<S, E, C> {
     ghost use Rattle.node_loop.specs.Waiting.{Waiting, nobody};
     ghost use Rattle.node_loop.specs.Peers.{Peers, no_peers};
     ghost use Rattle.node_loop.specs.Recovering.{recalled, all_newest, recalled_waiting, recalled_peers};
+    ghost use Rattle.node_loop.specs.Served.{AreHere};
     ghost use Rattle.node_loop.specs.Serving.{frames_made_by, sent_by};
     ghost use Rattle.node_loop.specs.Standing.{HouseStands, frame_by};
     ghost use Rattle.node_loop.specs.Laws.{IsServed};
@@ -104,6 +113,11 @@ impl<S: Service, E: Broadcast, C: Coin + Drop> House<S, E, C> {
             → IsServed w event.now
             → OnOk result (HouseStands m w (event.now ∷ es) numbers self.new (recalled w es event.now ws).waiting p
             × (map (frame_by output.new.at) output.new.frames.items ≡ sent_by w es (Some event.now)) × (w.is_correct output.new.at ≡ true)) }
+        // Memory may run out only over an event of a replica that is here.
+        ensures memory { let m = meaning_of S.Service E.Broadcast C.Coin in
+            (w : Setting) (es : List Event) (numbers : List ℕ)
+            → AreHere m w es numbers self.old.replicas.items
+            → OnErr result ((at : ℕ) × IsAlone at event.now × (w.is_correct at ≡ true)) }
     {
         let Some(at) = replica_of(event) else {
             // No other event is one of a journal.
@@ -150,6 +164,7 @@ impl<S: Service, E: Broadcast, C: Coin + Drop> House<S, E, C> {
             (w : Setting) (numbers : List ℕ) → HouseStands m w [] numbers self.old nobody no_peers → AllByRecursion (IsServed w) events.now
             → OnOk result (HouseStands m w (reverse events.now) numbers self.new
             (recalled_waiting w (reverse events.now)) (recalled_peers w (reverse events.now))) }
+        ensures memory { OnErr result (events.now ≢ []) }
     {
         for event in events {
             self.recall(alloc, event, output)?;

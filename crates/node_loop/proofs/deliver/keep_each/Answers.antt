@@ -1,4 +1,5 @@
-use Rattle.std.proofs.Common.{◌≤◌, ℕ, List, length, sym, subst, map, take}
+use Rattle.std.proofs.Common.{◌≤◌, ℕ, List, length, sym, subst, map, take, arith}
+use Rattle.std.proofs.lemmas.Result.{err_from_is_err_and}
 use Rattle.std.proofs.lemmas.List.{take_all}
 use Rattle.keyed_channel.specs.Lengths.{head_length}
 use Rattle.replica.specs.Out.{OutFrame}
@@ -25,4 +26,13 @@ returns c = record {
   keeps = λ n i k p long kept.
       subst (λ (l : List OutFrame). AreKept n i c.loop-frame.resume (keep_all (map (made_as k i) l) p).keeping)
       (take_all c.loop-frame.frame-index c.args.frames.now c.loop-frame-test.false) (c.loop-frame.invariant n i k p long kept);
+  memory = λ n i k p long kept. tt;
 }
+
+pub returns-in_err-keep-clause-memory : goal.returns-in_err-keep-clause-memory
+returns-in_err-keep-clause-memory c = λ n i k p long kept.
+    let failed = err_from_is_err_and c.from_residual.result c.from_residual.ensures.1 in
+    let x : OutFrame = c.frame-item.result in
+    let many = (c.loop-frame.invariant n i k p long kept).many in
+    let of_peer = c.in_err-keep.ensures.err.0 in
+    rw failed.1 (c.loop-frame.frame-index, x, c.loop-frame-test.true, sym c.frame-item.is, omega (arith, many, of_peer))

@@ -1,7 +1,7 @@
-use Rattle.std.proofs.Common.{◌≡◌, ◌≤◌, true, false, List, length, map, refl, sym, ◌∙◌, subst, arith}
-use Rattle.std.specs.List.{All}
+use Rattle.std.proofs.Common.{◌≡◌, ◌≤◌, ◌<◌, true, false, List, length, map, refl, sym, ◌∙◌, subst, arith}
+use Rattle.std.specs.List.{All, Any}
 use Rattle.std.proofs.lemmas.Option.{slice_get_read, slice_get_within}
-use Rattle.std.proofs.lemmas.Result.{on_ok_weaker}
+use Rattle.std.proofs.lemmas.Result.{on_ok_weaker, on_err_weaker}
 use Rattle.keyed_channel.specs.Lengths.{head_length}
 use Rattle.replica.specs.Out.{OutFrame}
 use Rattle.node_loop.specs.Peers.{keep_all}
@@ -15,6 +15,7 @@ returns-in_default g c = record {
   keeps = λ w es numbers did more comes.
       let away = c.in_default.ensures.place w (onto did.event es) numbers comes.stands.here in
       none_kept _ w es numbers _ did.waiting did.event comes.before more.peers (comes.nowhere away).0 comes.kept comes.stands;
+  memory = λ w es numbers did more comes. tt;
 }
 
 pub returns-in-Some-get_mut : goal.returns-in-Some-get_mut
@@ -32,6 +33,17 @@ returns-in-Some-get_mut g c = record {
       (λ kept. house_kept _ w (onto did.event es) numbers c.args.house.now did.waiting comes.before more.peers 0 at c.in-Some.place frames old _ comes.stands number there same
       (subst (λ (fs : List OutFrame). AreKept w.numbers.n at c.keep_each.new.resume (keep_all (map (made_as 0 at) fs) comes.before).keeping) c.as_slice.ensures.value kept))
       (c.keep_each.ensures.keeps w.numbers.n at 0 comes.before long (comes.stands.keepers c.in-Some.place at old number there).kept);
+  memory = λ w es numbers did more comes.
+      let at = c.args.output.now.at in
+      let frames = c.args.output.now.frames.items in
+      let old = c.in-Some-get_mut.keeper.now in
+      let placed = c.in-Some.ensures.place w (onto did.event es) numbers comes.stands.here in
+      let keepers = c.args.house.now.keepers.items in
+      let there = slice_get_read keepers (length keepers) c.in-Some.place old refl c.in-Some-get_mut.ensures.item.3.0 c.in-Some-get_mut.ensures.value in
+      let long = subst (λ (fs : List OutFrame). All (λ f. head_length ≤ length f.bytes) fs) (sym c.as_slice.ensures.value) (have_numbers c.sealed_length.ensures w es did.event at frames comes.frames) in
+      on_err_weaker c.keep_each.result
+      (λ some. (placed.0, subst (λ (fs : List OutFrame). Any (λ f. f.to < w.numbers.n) fs) c.as_slice.ensures.value some))
+      (c.keep_each.ensures.memory w.numbers.n at 0 comes.before long (comes.stands.keepers c.in-Some.place at old placed.1 there).kept);
 }
 
 pub returns-in-None : goal.returns-in-None
@@ -42,4 +54,5 @@ returns-in-None g c = record {
       let many = comes.stands.many in
       let none : false ≡ true = c.in-None.ensures.variant.1 (omega (arith, within, many)) in
       absurd (cc);
+  memory = λ w es numbers did more comes. tt;
 }

@@ -1,5 +1,6 @@
 use Rattle.std.proofs.Common.{◌≤◌, List, length, sym, subst, map, take}
 use Rattle.std.proofs.lemmas.List.{take_all}
+use Rattle.std.proofs.lemmas.Result.{err_from_is_err_and}
 use Rattle.keyed_channel.specs.Lengths.{head_length}
 use Rattle.replica.specs.Out.{OutFrame}
 use Rattle.node_loop.specs.Peers.{Peers}
@@ -25,4 +26,12 @@ returns c = record {
   keeps = λ n i k p long kept.
       subst (λ (l : List OutFrame). AreKept n i c.loop-frame.resume (all_newest (map (made_as k i) l) p).keeping)
       (take_all c.loop-frame.frame-index c.args.frames.now c.loop-frame-test.false) (c.loop-frame.invariant n i k p long kept);
+  memory = λ n i k p long kept. tt;
 }
+
+pub returns-in_err-keep_newest-clause-memory : goal.returns-in_err-keep_newest-clause-memory
+returns-in_err-keep_newest-clause-memory c = λ n i k p long kept.
+    let failed = err_from_is_err_and c.from_residual.result c.from_residual.ensures.1 in
+    let x : OutFrame = c.frame-item.result in
+    let q : Peers = all_newest (map (made_as k i) (take c.loop-frame.frame-index c.args.frames.now)) p in
+    rw failed.1 (c.loop-frame.frame-index, x, c.loop-frame-test.true, sym c.frame-item.is, (c.in_err-keep_newest.ensures.memory n i q (c.loop-frame.invariant n i k p long kept)).0)

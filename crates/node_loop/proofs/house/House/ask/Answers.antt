@@ -1,10 +1,12 @@
 use Rattle.std.proofs.Common.{Some, refl, sym, ap, ◌∙◌, subst}
 use Rattle.std.proofs.lemmas.Bool.{both_ways}
-use Rattle.std.proofs.lemmas.Result.{on_ok_weaker}
+use Rattle.std.proofs.lemmas.Result.{on_ok_weaker, on_err_weaker}
 use Rattle.client_port.specs.Messages.{request_in, query_in}
 use Rattle.command_log.specs.Index.{HaveFourBytes}
 use Rattle.world_model.specs.Agree.{rows_at}
 use Rattle.node_loop.specs.Calls.{asks, asks_so, queried}
+use Rattle.node_loop.specs.Wanting.{RequestMayWant}
+use Rattle.node_loop.proofs.Indexing.{at_error}
 use Rattle.node_loop.proofs.Querying.{query_fits, no_query_fits}
 use Rattle.node_loop.proofs.Comings.{quietly, cleared, comes_at, comes_as, does_here, not_here, asks_query, asks_other}
 use Rattle.node_loop.proofs.house.House.ask.Goals as goal
@@ -56,3 +58,20 @@ returns-in-Some-read_query-clause-fits g c = λ w es numbers stand.
 pub returns-in-None-clause-fits : goal.returns-in-None-clause-fits
 returns-in-None-clause-fits g c = λ w es numbers stand.
     no_query_fits w es c.args.at c.args.bytes (ap query_in (sym c.as_slice.ensures) ∙ sym c.read_query.ensures ∙ c.in-None.is)
+
+pub returns-in-Some-read_query-clause-memory : goal.returns-in-Some-read_query-clause-memory
+returns-in-Some-read_query-clause-memory g c = λ w es numbers ws p stand.
+    let is = ap query_in (sym c.as_slice.ensures) ∙ sym c.read_query.ensures ∙ c.in-Some-read_query.is in
+    at_error c.query.result (record {
+      here = (c.in-Some.ensures.place w es numbers stand.here).0;
+      request = λ none. absurd (let e = sym is ∙ none in cc);
+    })
+
+pub returns-in-None-clause-memory : goal.returns-in-None-clause-memory
+returns-in-None-clause-memory g c = λ w es numbers ws p stand.
+    let placed = c.in-Some.ensures.place w es numbers stand.here in
+    let at_is = c.clear.ensures.at in
+    let bytes = c.args.bytes in
+    on_err_weaker c.request.result
+    (λ may. record { here = placed.0; request = λ none. subst (λ k. RequestMayWant w es k c.args.conn bytes ws (request_in bytes)) at_is may })
+    (c.request.ensures.memory w es numbers ws p stand (placed.1 ∙ ap (λ x. Some x) (sym at_is)))

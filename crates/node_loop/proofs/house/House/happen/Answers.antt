@@ -1,9 +1,10 @@
 use Rattle.std.proofs.Common.{◌∷◌, ◌++◌, map, Some, refl, sym, ap, ◌∙◌}
 use Rattle.std.proofs.lemmas.Bool.{both_ways}
-use Rattle.std.proofs.lemmas.Result.{on_ok_weaker}
+use Rattle.std.proofs.lemmas.Result.{on_ok_weaker, err_from_is_err_and}
 use Rattle.node_loop.specs.Recalling.{waits_again}
 use Rattle.node_loop.specs.Serving.{sent_by}
 use Rattle.node_loop.specs.Standing.{frame_by}
+use Rattle.node_loop.proofs.Indexing.{at_error}
 use Rattle.node_loop.proofs.Comings.{given_stands, wait_else}
 use Rattle.node_loop.proofs.Recalling.{served_alone, served_here, happened}
 use Rattle.node_loop.proofs.house.House.happen.Goals as goal
@@ -12,12 +13,14 @@ use Rattle.world_model.specs.World.{seen_answer}
 pub returns-in_default : goal.returns-in_default
 returns-in_default g c = record {
   happens = λ w es numbers ws p stand served. absurd (served_alone w c.args.event.now served c.in_default.ensures.at);
+  memory = λ w es numbers stand. tt;
 }
 
 pub returns-in_default-place_of : goal.returns-in_default-place_of
 returns-in_default-place_of g c = record {
   happens = λ w es numbers ws p stand served.
       absurd (both_ways (w.is_correct c.in-Some.at) (c.in_default-place_of.ensures.place w es numbers stand.here) (served_here w c.args.event.now c.in-Some.at served c.in-Some.ensures.at));
+  memory = λ w es numbers stand. tt;
 }
 
 pub returns : goal.returns
@@ -43,4 +46,15 @@ returns g c = record {
         ap w.is_correct (c.enter.ensures.same.0 ∙ out) ∙ right,
       ))
       (c.enter.ensures.enters w (e ∷ es) numbers us p now (number ∙ ap (λ x. Some x) (sym out)));
+  memory = λ w es numbers stand. at_error c.enter.result (c.in-Some.at, c.in-Some.ensures.at, (c.in-Some-place_of.ensures.place w es numbers stand).0);
 }
+
+pub returns-in_err-answer-clause-memory : goal.returns-in_err-answer-clause-memory
+returns-in_err-answer-clause-memory g c = λ w es numbers stand.
+    let failed = err_from_is_err_and c.from_residual.result c.from_residual.ensures.1 in
+    rw failed.1 (c.in-Some.at, c.in-Some.ensures.at, (c.in-Some-place_of.ensures.place w es numbers stand).0)
+
+pub returns-in_err-wait_again-clause-memory : goal.returns-in_err-wait_again-clause-memory
+returns-in_err-wait_again-clause-memory g c = λ w es numbers stand.
+    let failed = err_from_is_err_and c.from_residual-in_err-wait_again.result c.from_residual-in_err-wait_again.ensures.1 in
+    rw failed.1 (c.in-Some.at, c.in-Some.ensures.at, (c.in-Some-place_of.ensures.place w es numbers stand).0)

@@ -1,6 +1,7 @@
 use Rattle.std.proofs.Common.{sym, ◌∙◌, Some, ap}
 use Rattle.std.proofs.lemmas.Result.{on_ok_weaker}
 use Rattle.keyed_channel.specs.Notes.{is_note}
+use Rattle.node_loop.proofs.Indexing.{at_error}
 use Rattle.node_loop.proofs.Comings.{cleared}
 use Rattle.node_loop.proofs.Hearing.{frame_nowhere, note_here, frame_here}
 use Rattle.node_loop.proofs.house.House.hear.Goals as goal
@@ -23,3 +24,7 @@ returns-clause-comes g c = λ w es numbers ws p stand.
     on_ok_weaker c.frame.result
     (frame_here _ w es numbers c.frame.new.self c.frame.new.output ws p c.args.to c.args.bytes c.as_slice.result.now placed.0 (sym c.is_note.ensures ∙ c.if-is_note.false) c.as_slice.ensures)
     (c.frame.ensures.comes w es numbers ws p c.args.to stand (sym c.clear.ensures.at) placed.1 (cleared c.clear.new.self c.clear.ensures.none))
+
+pub returns-clause-memory : goal.returns-clause-memory
+returns-clause-memory g c = λ w es numbers stand.
+    at_error c.frame.result ((c.in-Some.ensures.place w es numbers stand).0, ap is_note (sym c.as_slice.ensures) ∙ sym c.is_note.ensures ∙ c.if-is_note.false)

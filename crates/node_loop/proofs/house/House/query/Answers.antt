@@ -1,10 +1,11 @@
-use Rattle.std.proofs.Common.{◌++◌, map, sym, ap, ◌∙◌, subst, arith}
+use Rattle.std.proofs.Common.{◌<◌, ◌++◌, List, length, map, ap, ◌∙◌, subst, arith}
 use Rattle.std.proofs.lemmas.Result.{on_ok_weaker}
 use Rattle.command_log.specs.Index.{HaveFourBytes}
 use Rattle.command_log.specs.Pieces.{piece_bytes, piece_of_log}
 use Rattle.world_model.specs.Agree.{rows_at}
 use Rattle.node_loop.specs.Calls.{reply}
 use Rattle.node_loop.specs.Standing.{reply_by}
+use Rattle.node_loop.proofs.Indexing.{at_error}
 use Rattle.node_loop.proofs.Comings.{only_replies}
 use Rattle.node_loop.proofs.Heres.{as_here, nowhere, read_at, log_at}
 use Rattle.node_loop.proofs.house.House.query.Goals as goal
@@ -42,3 +43,8 @@ returns-in_err-piece-clause-fits g c = λ w es numbers stand number.
     let is = read_at _ w es numbers c.args.self.now.replicas.items c.deref.result.now c.args.place at c.in-Some.replica.now stand c.deref.ensures.value number c.in-Some.ensures.lookup.3.0 c.in-Some.ensures.lookup.1 in
     let rows = log_at _ w es at c.in-Some.replica.now c.log-log.result.now.rows is c.log-log.ensures.live in
     (omega arith, subst HaveFourBytes rows c.numbers_fit.ensures)
+
+pub returns-clause-memory : goal.returns-clause-memory
+returns-clause-memory g c =
+    let P : List _ → Type 0 = λ l. c.args.place < length l in
+    at_error c.reply.result (subst P c.deref.ensures.value c.in-Some.ensures.lookup.3.0)

@@ -1,4 +1,5 @@
-use Rattle.std.proofs.Common.{List, reverse, sym, subst}
+use Rattle.std.proofs.Common.{◌<◌, List, length, reverse, sym, subst, arith}
+use Rattle.std.proofs.lemmas.Result.{err_from_is_err_and}
 use Rattle.std.proofs.lemmas.List.{take_all}
 use Rattle.std.proofs.lemmas.List.Elements.{All-from_recursion}
 use Rattle.ritas_base.specs.declared.event.Event.{Event}
@@ -28,4 +29,10 @@ returns g c = record {
       let m = meaning_of g.S.Service g.E.Broadcast g.C.Coin in
       subst (λ (l : List Event). HouseStands m w (reverse l) numbers c.loop-event.self (recalled_waiting w (reverse l)) (recalled_peers w (reverse l)))
       (take_all c.loop-event.event-index c.args.events.now c.loop-event-test.false) (c.loop-event.invariant w numbers stand served);
+  memory = tt;
 }
+
+pub returns-in_err-recall-clause-memory : goal.returns-in_err-recall-clause-memory
+returns-in_err-recall-clause-memory g c =
+    let failed = err_from_is_err_and c.from_residual.result c.from_residual.ensures.1 in
+    rw failed.1 (λ none. let some = subst (λ (l : List Event). c.loop-event.event-index < length l) none c.loop-event-test.true in omega (arith, some))

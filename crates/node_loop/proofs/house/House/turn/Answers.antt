@@ -6,6 +6,7 @@ use Rattle.node_loop.specs.Calls.{event_called}
 use Rattle.node_loop.specs.Peers.{keep_all}
 use Rattle.node_loop.specs.Resending.{nothing_more}
 use Rattle.node_loop.specs.Serving.{frames_made_by}
+use Rattle.node_loop.proofs.Indexing.{at_error}
 use Rattle.node_loop.proofs.Comings.{cleared, comes_at}
 use Rattle.node_loop.proofs.house.House.turn.Goals as goal
 
@@ -19,3 +20,6 @@ returns-in-Some-clause-comes g c = λ w es numbers ws p stand right.
 
 pub returns-in-None-clause-comes : goal.returns-in-None-clause-comes
 returns-in-None-clause-comes g c = λ w es numbers ws p stand right. absurd (both_ways (w.is_correct c.args.at) (c.in-None.ensures.place w es numbers stand.here) right)
+
+pub returns-in-Some-clause-memory : goal.returns-in-Some-clause-memory
+returns-in-Some-clause-memory g c = λ w es numbers stand. at_error c.call.result (c.in-Some.ensures.place w es numbers stand).0
