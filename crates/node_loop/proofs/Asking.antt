@@ -1,15 +1,12 @@
 -- Who waits, where the first one comes.
-use Rattle.std.proofs.Common.{◌≡◌, ℕ, Bool, true, false, not, ◌&&◌, ◌==◌, List, length, filter, [], ◌∷◌, Option, Some, None, Global, refl, sym, ◌∙◌, ap, ap₂, arith, nat_lt, ◌<◌, cond, if◌then◌else◌}
-use Rattle.std.specs.declared.vec.Vec.{Vec}
+use Rattle.std.proofs.Common.{◌≡◌, ℕ, Bool, true, false, not, ◌&&◌, ◌==◌, List, length, filter, [], ◌∷◌, Option, Some, refl, sym, ◌∙◌, ap, ap₂, arith, nat_lt, ◌<◌, cond}
 use Rattle.std.specs.declared.cmp.Ordering.{Ordering}
 use Rattle.std.specs.declared.cmp.Ordering.TheVariants.{Less, Equal, Greater}
 use Rattle.std.specs.Ordering.{is_eq, nat_cmp, ordering_then}
-use Rattle.std.specs.BTreeMap.{get}
 use Rattle.std.proofs.lemmas.Bool.{eqb-true, ne_eqb, ltb-true, and_parts}
 use Rattle.node_loop.specs.declared.waiting.Asked.{Asked}
-use Rattle.node_loop.specs.declared.waiting.Waiters.{Waiters}
-use Rattle.node_loop.specs.Waiting.{Waiting, is_same_request, is_conn, joined, with_waiter, without_conn}
-use Rattle.node_loop.specs.WaitersStanding.{asked_cmp, conns_in, IsWaiting}
+use Rattle.node_loop.specs.Waiting.{is_same_request, is_conn, without_conn}
+use Rattle.node_loop.specs.WaitersStanding.{asked_cmp}
 
 -- requests that agree in all fields are one
 pub same_asked : (a b : Asked) → is_same_request a b ≡ true → a ≡ b

@@ -15,7 +15,7 @@ use Rattle.world_model.specs.MadeOrder.{MadeFrame}
 use Rattle.node_loop.specs.Waiting.{Waiting}
 use Rattle.node_loop.specs.Calls.{event_called}
 use Rattle.node_loop.specs.Peers.{Peers, keep_all, with_mark}
-use Rattle.node_loop.specs.Deeds.{Deed, Came, Made, Resent, Acked, Wished, Replied, pushed}
+use Rattle.node_loop.specs.Deeds.{Deed, Made, Resent, Acked, Replied, pushed}
 use Rattle.node_loop.specs.Resending.{Brought, nothing_more, is_deferred, mark_at, opened_so, resends, noted_so}
 use Rattle.node_loop.specs.Serving.{Serving, so_far, Round, Began, Turned, Reminded, Took, frames_made_by, outcome, brought, after_from}
 use Rattle.node_loop.specs.Told.{after_groups, with_deeds, came_for, came_in, newest_deeds, deeds_from}

@@ -1,5 +1,5 @@
 -- The rows of a correct replica's log are of commands of the session.
-use Rattle.std.specs.Prelude.{◌≡◌, ℕ, ◌*◌, ◌<◌, ◌≤◌, true, List, [], length, drop, Option, Some, unwrap_or}
+use Rattle.std.specs.Prelude.{◌≡◌, ℕ, ◌<◌, ◌≤◌, List, [], length, drop, Option, Some, unwrap_or}
 use Rattle.std.proofs.Common.{sym, ◌∙◌, subst, arith, length-drop}
 use Rattle.ritas_base.specs.declared.event.Event.{Event}
 use Rattle.ritas_base.specs.declared.id.Id.{Id}

@@ -1,5 +1,4 @@
 use Rattle.node_loop.proofs.Printing.{lives_print, all_lives}
-use Rattle.node_loop.specs.Meanings.{meaning_of}
 use Rattle.node_loop.proofs.laws.lives_print.Goals as goal
 
 pub returns : goal.returns
