@@ -1,6 +1,6 @@
 //! Giving an item to the broadcast of its slot, which is made where it isn't there yet, and what is newly delivered by it.
 
-ghost use Rattle.std.specs.Prelude.{◌≡◌, ◌<◌, List, ℕ, Bool, true, IfOk, None, if◌then◌else◌};
+ghost use Rattle.std.specs.Prelude.{◌≡◌, ◌<◌, List, ℕ, Bool, true, IsOk, IfOk, None, if◌then◌else◌};
 ghost use Rattle.std.specs.FinMap.{get};
 ghost use Rattle.ritas_base.specs.declared.slot.Slot.{Slot};
 ghost use Rattle.ritas_base.specs.declared.mode.Mode.{Mode};
@@ -26,7 +26,9 @@ fn newly_delivered<E: Broadcast>(
     had: bool,
     cast: &Cast<E>,
 ) -> Result<Option<Bytes>, Mem>
-    ensures { IfOk result (λ d. d ≡ (if had then None else (shown_by_cast E.shown cast.now).out)) }
+    ensures value { IfOk result (λ d. d ≡ (if had then None else (shown_by_cast E.shown cast.now).out)) }
+    ensures had { had ≡ true → IsOk result }
+    ensures none { (shown_by_cast E.shown cast.now).out ≡ None → IsOk result }
 {
     if had {
         return Ok(None);

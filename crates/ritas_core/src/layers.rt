@@ -1,6 +1,6 @@
 //! The service of a replica over its broadcasts, the windows, and which items are open.
 
-ghost use Rattle.std.specs.Prelude.{◌≡◌, nat_le, not, false, Some, OnOk, OnErr, if◌then◌else◌};
+ghost use Rattle.std.specs.Prelude.{◌≡◌, nat_le, not, true, false, Some, IsOk, OnOk, OnErr, if◌then◌else◌};
 ghost use Rattle.std.specs.BTreeMap.{get};
 ghost use Rattle.ritas_base.specs.declared.slot.Slot.{Slot};
 ghost use Rattle.ritas_base.specs.SlotOrder.{slot_cmp, is_slot};
@@ -61,6 +61,7 @@ fn keep_output(
     ensures kept { OnOk result (nat_le 3 mode.now.root ≡ false
         → (s : Slot) → get slot_cmp outputs.new s ≡ (if is_slot slot s then Some value else get slot_cmp outputs.old s)) }
     ensures err { OnErr result ((s : Slot) → get slot_cmp outputs.new s ≡ get slot_cmp outputs.old s) }
+    ensures spared { nat_le 3 mode.now.root ≡ true → IsOk result }
 {
     if keeps_outputs(mode) {
         outputs.insert(slot, value)?;

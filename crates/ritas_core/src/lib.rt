@@ -9,6 +9,9 @@
 //! No history is stored. The contract of each call says: whatever history, inbox and held items the core stands for, it
 //! answers, puts out and becomes what the abstract core in `specs/Machine.antt` does. What goes out is then exactly what
 //! became due, by the laws in `laws`.
+//!
+//! The private calls answer `Mem` where one that they make does, and say so where they make none. Beyond that no clause
+//! bounds it, since std says nothing of when `push`, `insert` and `reserve` fail.
 #![tactic(auto)]
 
 mod answer;

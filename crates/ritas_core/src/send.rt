@@ -1,6 +1,6 @@
 //! Putting messages in order, and keeping those for oneself in the inbox.
 
-ghost use Rattle.std.specs.Prelude.{◌≡◌, ◌++◌, [], ◌∷◌, OnOk, OnErr, IfOk};
+ghost use Rattle.std.specs.Prelude.{◌≡◌, ◌++◌, [], ◌∷◌, false, IsOk, OnOk, OnErr, IfOk};
 ghost use Rattle.ritas_base.specs.Messages.{reaches};
 ghost use Rattle.ritas_core.specs.Order.{is_before, inserted, ordered, own_items, Extends};
 
@@ -30,6 +30,7 @@ fn reaches(to: To, me: u8) -> bool
 fn keep_one(alloc: Global, me: u8, m: &Msg, inbox: &mut VecDeque<Item>) -> Result<(), Mem>
     ensures ok { OnOk result (inbox.new.items ≡ inbox.old.items ++ own_items me (m.now ∷ [])) }
     ensures err { OnErr result (inbox.new.items ≡ inbox.old.items) }
+    ensures spared { reaches m.now.to me ≡ false → IsOk result }
 {
     if reaches(m.to, me) {
         let item = m.to_item(alloc, me)?;
