@@ -6,8 +6,8 @@ ghost use Rattle.ordered_rounds.specs.Early.{has_early, Advances};
 use ritas_base::{Id, Mem, NUMBER_LIMIT};
 use std::collections::BTreeSet;
 
-/// Takes a command out, and says whether it was there.
-pub fn take_early(early: &mut BTreeSet<Id>, origin: u8, num: u32) -> bool
+// Takes a command out, and says whether it was there.
+fn take_early(early: &mut BTreeSet<Id>, origin: u8, num: u32) -> bool
     ensures there { result ≡ has_early early.old origin num }
     ensures rest { (o k : ℕ) → has_early early.new o k ≡ (not (o == origin && k == num) && has_early early.old o k) }
 {
