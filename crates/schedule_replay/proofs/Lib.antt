@@ -1,7 +1,6 @@
 pub mod Feeding
 pub mod Asking
 pub mod Files
-pub mod Carried
 pub mod Deals
 pub mod Written
 pub mod Outs

@@ -1,11 +1,15 @@
 -- The layers of the program, and the world that a schedule file's header describes: its layers, and its keys and coins.
-use Rattle.std.specs.Prelude.{◌≡◌, ℕ, ◌==◌, Bool, List, take, true, false, if◌then◌else◌}
+use Rattle.std.specs.Prelude.{◌≡◌, ℕ, ◌==◌, ◌⊎◌, Bool, List, take, true, false, if◌then◌else◌}
+use Rattle.std.proofs.Common.{◌∙◌, ap, inl, inr}
 use Rattle.ritas_base.specs.declared.mode.Mode.{Mode}
 use Rattle.ritas_base.specs.declared.mode.FrameVersion.{FrameVersion}
 use Rattle.ritas_base.specs.History.{Call}
 use Rattle.ritas_base.specs.Messages.{Place}
 use Rattle.ritas_base.specs.Tags.{Tags}
 use Rattle.ritas_base.specs.Members.{has_member}
+use Rattle.ritas_base.specs.RootServices.{root_number}
+use Rattle.ritas_base.specs.declared.root_service.RootService.{RootService}
+use Rattle.ritas_base.specs.declared.root_service.RootService.TheVariants as roots
 use Rattle.keyed_channel.specs.Keyed.{CoinSeed, dealt_for, coin_key_of, coin_bit, tags_of}
 use Rattle.ritas_base.specs.Bytes.{filled_row}
 use Rattle.keyed_channel.specs.KeyRow.{KeyRow}
@@ -96,6 +100,11 @@ service_of root =
     else if root == 6 then atomic (vectors (multivalued binary))
     else if root == 7 then direct (multivalued binary)
     else commands
+
+-- root services 1 and 2 are one service
+pub carried : (root : ℕ) (s : RootService) → root ≡ root_number s → (s ≡ roots.Reliable) ⊎ (s ≡ roots.Echo) → service_of root ≡ commands
+carried root s is (inl reliable) = ap service_of (is ∙ ap root_number reliable)
+carried root s is (inr echo) = ap service_of (is ∙ ap root_number echo)
 
 -- the world of a header: the service of its root service, and the broadcasts of its mode
 abbrev pub setting_of : Header → Setting

@@ -2,8 +2,7 @@ use Rattle.std.proofs.Common.{◌≡◌, sym, ap}
 use Rattle.atomic_bcast.specs.Commands.{commands}
 use Rattle.layer_api.specs.Service.{ServiceRules}
 use Rattle.schedule_file.specs.declared.header.Header.{Header}
-use Rattle.schedule_replay.specs.Layers.{other_of, service_of, setting_by, setting_of}
-use Rattle.schedule_replay.proofs.Carried.{carried}
+use Rattle.schedule_replay.specs.Layers.{other_of, service_of, carried, setting_by, setting_of}
 use Rattle.schedule_replay.proofs.layers.replay_events.Goals as goal
 
 pub returns-in-Reliable-clause-shows : goal.returns-in-Reliable-clause-shows
