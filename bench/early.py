@@ -6,12 +6,16 @@ two peers. The further events broadcast commands: for each its INIT, six ECHOs a
 opens an early item, and none is past by them.
 """
 import itertools
+import re
 import statistics
 import struct
 import subprocess
 import tempfile
 
 from tags import children_time, program
+
+# What valgrind tells of how many instructions it saw.
+COLLECTED = re.compile(rb"Collected : (\d+)")
 
 N, F, ROOT, RELIABLE = 7, 2, 6, 2
 INIT, ECHO, READY = 1, 2, 3
@@ -91,3 +95,29 @@ def costs(commands: int, turns: int):
         pairs.append((loaded / events, max(alone, LEAST_SECONDS) / events))
     loaded, alone = zip(*pairs)
     return statistics.median(loaded), statistics.median(alone), statistics.median(a / b for a, b in pairs)
+
+
+def count(events: bytes) -> subprocess.Popen:
+    """Begins to count the instructions of a replay, by valgrind."""
+    with tempfile.TemporaryFile() as file:
+        file.write(header() + events + END)
+        file.seek(0)
+        command = ["valgrind", "--tool=callgrind", "--callgrind-out-file=/dev/null", program(), "replay", "report"]
+        return subprocess.Popen(command, stdin=file, stdout=subprocess.DEVNULL, stderr=subprocess.PIPE)
+
+
+def counted(run: subprocess.Popen) -> int:
+    """How many they were."""
+    said = run.communicate()[1]
+    if not (found := COLLECTED.search(said)):
+        raise RuntimeError(f"valgrind: {said[-200:]!r}")
+    return int(found[1])
+
+
+def instructions(first: int, commands: int):
+    """How many instructions a further event takes with the early items, and without them. Those of so many first commands aren't counted: as the
+    replay goes on behind the early items, the C library puts together, once, the blocks that their frames left."""
+    flood, front, more = early(), further(first), further(commands)
+    counts = [counted(run) for run in [count(events) for events in (flood + more, flood + front, more, front)]]
+    events = 15 * (commands - first)
+    return (counts[0] - counts[1]) / events, (counts[2] - counts[3]) / events
