@@ -6,7 +6,8 @@ use Rattle.std.proofs.lemmas.List.{nil_from_length}
 use Rattle.std.proofs.lemmas.Nat.{be_bytes_4, from_be_bytes-to_be_bytes_4}
 use Rattle.ritas_base.specs.Limits.{number_limit}
 use Rattle.ritas_base.specs.Numbers.{Numbers, IsSession}
-use Rattle.ritas_base.specs.Slots.{slot_fault, slot_bytes, by_echo, reliable_form, form_of, within}
+use Rattle.ritas_base.specs.Slots.{slot_fault, slot_bytes, by_echo, form_of, within}
+use Rattle.ritas_base.specs.Versions.{reliable_form}
 use Rattle.ritas_base.specs.SlotLaws.{right_is}
 use Rattle.ritas_base.specs.declared.slot.Slot.{Slot}
 use Rattle.ritas_base.specs.declared.slot.SlotFault.{SlotFault}
@@ -88,22 +89,23 @@ versioned version (Some k) kind e = go (is_of_version version k) e
     go false e = absurd cc
 
 -- a form's kinds are those of its version
-by_version : (version : FrameVersion) (echo : Bool) (kind : Kind) → is_of_form (cond echo 2 (reliable_form version)) kind ≡ true → is_of_version version kind ≡ true
-by_version versions.One true kinds.Want e = absurd cc
-by_version versions.One false kinds.Want e = absurd cc
-by_version versions.One true kinds.Value e = absurd cc
-by_version versions.One false kinds.Value e = absurd cc
-by_version versions.One echo kinds.Init e = refl
-by_version versions.One echo kinds.Echo e = refl
-by_version versions.One echo kinds.Ready e = refl
-by_version versions.One echo kinds.Send e = refl
-by_version versions.One echo kinds.Hashes e = refl
-by_version versions.One echo kinds.Column e = refl
-by_version versions.Two echo kind e = refl
+by_version : (version : FrameVersion) (class : ℕ) (echo : Bool) (kind : Kind) → is_of_form (cond echo 2 (reliable_form version class)) kind ≡ true → is_of_version version kind ≡ true
+by_version versions.One class true kinds.Want e = absurd cc
+by_version versions.One class false kinds.Want e = absurd cc
+by_version versions.One class true kinds.Value e = absurd cc
+by_version versions.One class false kinds.Value e = absurd cc
+by_version versions.One class echo kinds.Init e = refl
+by_version versions.One class echo kinds.Echo e = refl
+by_version versions.One class echo kinds.Ready e = refl
+by_version versions.One class echo kinds.Send e = refl
+by_version versions.One class echo kinds.Hashes e = refl
+by_version versions.One class echo kinds.Column e = refl
+by_version versions.Two class echo kind e = refl
+by_version versions.Three class echo kind e = refl
 
 has_version : (mode : Mode) (s : Slot) (kind : Kind) → is_of_form (form_of mode s) kind ≡ true → is_of_version mode.version kind ≡ true
 unfolding form_of
-has_version mode s kind e = by_version mode.version (by_echo mode s) kind e
+has_version mode s kind e = by_version mode.version s.class (by_echo mode s) kind e
 
 -- ---- slots
 

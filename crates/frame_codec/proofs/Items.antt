@@ -3,7 +3,8 @@ use Rattle.std.proofs.Common.{◌≡◌, ℕ, ◌<◌, ◌≤◌, ◌&&◌, ◌|
 use Rattle.std.proofs.lemmas.Bool.{eqb-true, leb-true, lt-ltb, and_parts, and_from, or_right, or_cases}
 use Rattle.ritas_base.specs.Limits.{number_limit}
 use Rattle.ritas_base.specs.Numbers.{Numbers, IsSession}
-use Rattle.ritas_base.specs.Slots.{within, is_atomic, has_class, has_number, has_tries, slot_fault, by_echo, reliable_form, form_of, command_slot}
+use Rattle.ritas_base.specs.Slots.{within, is_atomic, has_class, has_number, has_tries, slot_fault, by_echo, form_of, command_slot}
+use Rattle.ritas_base.specs.Versions.{reliable_form}
 use Rattle.ritas_base.specs.declared.slot.Slot.{Slot}
 use Rattle.ritas_base.specs.declared.mode.Mode.{Mode}
 use Rattle.ritas_base.specs.declared.mode.FrameVersion.{FrameVersion}
@@ -165,25 +166,37 @@ unfolding slot_fault
 command_slot_right p mode origin num has lt small =
     rw (has, command_numbered mode.root num has small, no_tries (has_tries mode.root) p.f, lt-ltb origin p.n lt) refl
 
-first_by : (version : FrameVersion) (echo : Bool) → is_of_form (cond echo 2 (reliable_form version)) (first_kind echo) ≡ true
-first_by versions.One true = refl
-first_by versions.Two true = refl
-first_by versions.One false = refl
-first_by versions.Two false = refl
+first_by : (version : FrameVersion) (class : ℕ) (echo : Bool) → is_of_form (cond echo 2 (reliable_form version class)) (first_kind echo) ≡ true
+first_by versions.One class true = refl
+first_by versions.Two class true = refl
+first_by versions.Three class true = refl
+first_by versions.One class false = refl
+first_by versions.Two class false = refl
+first_by versions.Three class false = of_three (eqb class 5)
+  where
+    of_three : (bit : Bool) → is_of_form (cond bit 1 3) (first_kind false) ≡ true
+    of_three true = refl
+    of_three false = refl
 
 first_goes : (mode : Mode) (s : Slot) → is_of_form (form_of mode s) (first_kind (by_echo mode s)) ≡ true
 unfolding form_of
-first_goes mode s = first_by mode.version (by_echo mode s)
+first_goes mode s = first_by mode.version s.class (by_echo mode s)
 
-carries_by : (version : FrameVersion) (echo : Bool) → carries_value (cond echo 2 (reliable_form version)) (first_kind echo) ≡ true
-carries_by versions.One true = refl
-carries_by versions.Two true = refl
-carries_by versions.One false = refl
-carries_by versions.Two false = refl
+carries_by : (version : FrameVersion) (class : ℕ) (echo : Bool) → carries_value (cond echo 2 (reliable_form version class)) (first_kind echo) ≡ true
+carries_by versions.One class true = refl
+carries_by versions.Two class true = refl
+carries_by versions.Three class true = refl
+carries_by versions.One class false = refl
+carries_by versions.Two class false = refl
+carries_by versions.Three class false = of_three (eqb class 5)
+  where
+    of_three : (bit : Bool) → carries_value (cond bit 1 3) (first_kind false) ≡ true
+    of_three true = refl
+    of_three false = refl
 
 first_carries : (mode : Mode) (s : Slot) → carries_value (form_of mode s) (first_kind (by_echo mode s)) ≡ true
 unfolding form_of
-first_carries mode s = carries_by mode.version (by_echo mode s)
+first_carries mode s = carries_by mode.version s.class (by_echo mode s)
 
 command_takes : (t3 t4 t5 : Bool) (root : ℕ) → (root ≤ 2) ⊎ (6 ≤ root) → (t3 ≡ true → root ≡ 3) → (t4 ≡ true → root ≡ 4) → (t5 ≡ true → root ≡ 5)
     → cond t3 false (cond t4 false (cond t5 false true)) ≡ true

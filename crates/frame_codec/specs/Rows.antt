@@ -10,7 +10,7 @@ use Rattle.ritas_base.specs.Slots.{has_class, slot_fault, by_echo, form_of}
 use Rattle.ritas_base.specs.declared.slot.SlotFault.TheVariants.{Class, Closed, Number, Attempt, Round, Step, Origin, Whole}
 use Rattle.ritas_base.specs.declared.mode.Mode.{Mode}
 use Rattle.ritas_base.specs.declared.mode.Vect.TheVariants.{Echo}
-use Rattle.ritas_base.specs.declared.mode.FrameVersion.TheVariants.{One, Two}
+use Rattle.ritas_base.specs.declared.mode.FrameVersion.TheVariants.{One, Two, Three}
 use Rattle.ritas_base.specs.declared.item.Kind.{Kind as a_kind}
 use Rattle.ritas_base.specs.declared.item.Kind.TheVariants as kinds
 use Rattle.ritas_base.specs.declared.item.Item.{Item}
@@ -280,6 +280,51 @@ want_without_slot = refl
 no_want_in_version_1 : body_answer four one 2 (7 ∷ 1 ∷ []) ≡ Err Kind
 unfolding body_answer head_answer slot_of slot_fault has_class by_echo form_of payload digest value class1 class2 class3 vect bit ids ids_from
 no_want_in_version_1 = refl
+
+-- ---- bodies of version 3: commands go by digests, and bits by values
+
+abbrev one_three : Mode
+one_three = record { root = 1; vect = Echo; version = Three; low = lit≤ tt; high = lit≤ tt }
+
+abbrev bit_three : Mode
+bit_three = record { root = 3; vect = Echo; version = Three; low = lit≤ tt; high = lit≤ tt }
+
+abbrev step_of : a_kind → List ℕ → Result Item BodyFault
+step_of kind value = Ok (record {
+  from = 2;
+  kind = kind;
+  slot = record { class = 5; a = 0; attempt = 0; bround = 1; step = 3; origin = 0 };
+  value = value;
+})
+
+echo_of_a_digest_3 : body_answer four one_three 2 (2 ∷ 1 ∷ 0 ∷ 0 ∷ 0 ∷ 0 ∷ 0 ∷ 0 ∷ 0 ∷ 0 ∷ replicate 32 7) ≡ body_of kinds.Echo (replicate 32 7)
+unfolding body_answer head_answer slot_of slot_fault has_class by_echo form_of payload digest value class1 class2 class3 vect bit ids ids_from
+echo_of_a_digest_3 = refl
+
+value_of_a_command_3 : body_answer four one_three 2 (8 ∷ 1 ∷ 0 ∷ 0 ∷ 0 ∷ 0 ∷ 0 ∷ 0 ∷ 0 ∷ 0 ∷ 97 ∷ []) ≡ body_of kinds.Value (97 ∷ [])
+unfolding body_answer head_answer slot_of slot_fault has_class by_echo form_of payload digest value class1 class2 class3 vect bit ids ids_from
+value_of_a_command_3 = refl
+
+echo_of_a_bit : body_answer four bit_three 2 (2 ∷ 5 ∷ 0 ∷ 0 ∷ 0 ∷ 0 ∷ 0 ∷ 1 ∷ 3 ∷ 0 ∷ 2 ∷ []) ≡ step_of kinds.Echo (2 ∷ [])
+unfolding body_answer head_answer slot_of slot_fault has_class by_echo form_of payload digest value class1 class2 class3 vect bit ids ids_from
+echo_of_a_bit = refl
+
+ready_of_a_bit : body_answer four bit_three 2 (3 ∷ 5 ∷ 0 ∷ 0 ∷ 0 ∷ 0 ∷ 0 ∷ 1 ∷ 3 ∷ 0 ∷ 1 ∷ []) ≡ step_of kinds.Ready (1 ∷ [])
+unfolding body_answer head_answer slot_of slot_fault has_class by_echo form_of payload digest value class1 class2 class3 vect bit ids ids_from
+ready_of_a_bit = refl
+
+-- of a bit there is no digest, so nobody wants its value
+echo_of_its_digest : body_answer four bit_three 2 (2 ∷ 5 ∷ 0 ∷ 0 ∷ 0 ∷ 0 ∷ 0 ∷ 1 ∷ 3 ∷ 0 ∷ replicate 32 1) ≡ Err (Rest 11)
+unfolding body_answer head_answer slot_of slot_fault has_class by_echo form_of payload digest value class1 class2 class3 vect bit ids ids_from
+echo_of_its_digest = refl
+
+want_of_a_bit : body_answer four bit_three 2 (7 ∷ 5 ∷ 0 ∷ 0 ∷ 0 ∷ 0 ∷ 0 ∷ 1 ∷ 3 ∷ 0 ∷ replicate 32 1) ≡ Err Kind
+unfolding body_answer head_answer slot_of slot_fault has_class by_echo form_of payload digest value class1 class2 class3 vect bit ids ids_from
+want_of_a_bit = refl
+
+value_of_a_bit : body_answer four bit_three 2 (8 ∷ 5 ∷ 0 ∷ 0 ∷ 0 ∷ 0 ∷ 0 ∷ 1 ∷ 3 ∷ 0 ∷ 2 ∷ []) ≡ Err Kind
+unfolding body_answer head_answer slot_of slot_fault has_class by_echo form_of payload digest value class1 class2 class3 vect bit ids ids_from
+value_of_a_bit = refl
 
 -- ---- inputs
 

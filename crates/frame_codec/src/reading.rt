@@ -142,7 +142,7 @@ fn answer(alloc: Global, p: &Params, mode: &Mode, from: u8, bytes: &[u8]) -> Res
 
 /// The one item that the bytes spell, as from this replica.
 ///
-/// `Kind` comes exactly where the body is empty, its first byte isn't 1 to 6 (in version 2: 1 to 8), or its slot is right
+/// `Kind` comes exactly where the body is empty, its first byte isn't 1 to 6 (in versions 2 and 3: 1 to 8), or its slot is right
 /// and goes by a broadcast without this kind; `Slot` exactly where the first byte is one of these and the slot isn't whole,
 /// or has this fault. Otherwise the payload is read from the left: `Payload` comes at the first field that is wrong or
 /// isn't whole, and `Rest` exactly where bytes follow a whole payload. A digest is one field, which is never wrong. `Mem`

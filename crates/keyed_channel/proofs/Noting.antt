@@ -6,7 +6,7 @@ use Rattle.std.proofs.lemmas.Nat.{from_be_bytes-to_be_bytes_8}
 use Rattle.std.proofs.lemmas.Bool.{eqb-true, le-leb, lt-ltb, eq-eqb, ne_eqb}
 use Rattle.std.proofs.lemmas.Slice.Eq.{bytes_eq-Decides}
 use Rattle.ritas_base.specs.declared.mode.FrameVersion.{FrameVersion}
-use Rattle.ritas_base.specs.declared.mode.FrameVersion.TheVariants.{One, Two}
+use Rattle.ritas_base.specs.declared.mode.FrameVersion.TheVariants.{One, Two, Three}
 use Rattle.ritas_base.specs.Limits.{longest_frame}
 use Rattle.keyed_channel.specs.Lengths.{least_frame, note_length}
 use Rattle.keyed_channel.specs.Hmac.{hmac_of}
@@ -50,6 +50,7 @@ short_or_long true true false d e v = inr (inr refl)
 no_version : (v : FrameVersion) → (0x4e == version_byte v) ≡ false
 no_version One = refl
 no_version Two = refl
+no_version Three = refl
 
 version_wrong : (v : FrameVersion) (bytes : List ℕ) → is_note bytes ≡ true → (version_of bytes == version_byte v) ≡ false
 version_wrong v bytes note = ap (λ (b : ℕ). b == version_byte v) (eqb-true (version_of bytes) 0x4e note) ∙ no_version v

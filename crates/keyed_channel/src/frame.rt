@@ -13,16 +13,6 @@ use crate::tags::hmac;
 use ritas_base::{Bytes, FrameVersion, LONGEST_FRAME, Mem};
 use std::alloc::Global;
 
-// The first byte of a version's frames.
-pub(crate) fn version_byte(version: FrameVersion) -> u8
-    ensures { result ≡ version_byte version }
-{
-    match version {
-        FrameVersion::One => 1,
-        FrameVersion::Two => 2,
-    }
-}
-
 /// Why a frame doesn't open: the first of these that holds.
 #[derive(Clone, Copy, Debug, PartialEq, Eq)]
 pub enum OpenFault {
@@ -63,7 +53,7 @@ pub(crate) fn front(
     ensures { IfOk result (λ frame. frame.items ≡ frame_front version me to seq body.now) }
 {
     let mut frame = Vec::with_capacity(alloc, body.len() + FRAME_OVERHEAD)?;
-    frame.extend_from_slice(&[version_byte(version), me, to])?;
+    frame.extend_from_slice(&[version.byte(), me, to])?;
     frame.extend_from_slice(&seq.to_be_bytes())?;
     frame.extend_from_slice(body)?;
     Ok(frame)
@@ -108,7 +98,7 @@ pub(crate) fn check_parts(
     if length > LONGEST_FRAME {
         return Err(OpenFault::Long);
     }
-    if version != version_byte(keys.version()) {
+    if version != keys.version().byte() {
         return Err(OpenFault::Version);
     }
     if to != keys.me() {

@@ -8,7 +8,7 @@ ghost use Rattle.keyed_channel.specs.Lengths.{head_length, frame_overhead};
 ghost use Rattle.keyed_channel.specs.Hmac.{hmac_of};
 ghost use Rattle.keyed_channel.specs.Frames.{frame_front, with_tag, tagged_front, tag_of, plain_fault, sender_of, seq_of, frame_body};
 
-use crate::frame::{OpenFault, check_parts, front, tagged, version_byte};
+use crate::frame::{OpenFault, check_parts, front, tagged};
 use crate::hashed_key::HashedKey;
 use crate::keys::Keys;
 use crate::lengths::{FRAME_OVERHEAD, HEAD_LEN, TAG_LEN};
@@ -46,7 +46,7 @@ fn head(version: FrameVersion, from: u8, to: u8, seq: u64) -> [u8; HEAD_LEN]
     ensures { result ≡ version_byte version ∷ from ∷ to ∷ to_be_bytes w64 seq }
 {
     let mut head = [0; HEAD_LEN];
-    head[0] = version_byte(version);
+    head[0] = version.byte();
     head[1] = from;
     head[2] = to;
     head[3..].copy_from_slice(&seq.to_be_bytes());
@@ -114,13 +114,7 @@ impl LazyFrame {
             (λ fault. plain_fault keys.now self.now ≡ Some fault) }
         ensures sender { OnOk result ((sender_of self.now < keys.now.n) × (keys.now.n ≤ 31)) }
     {
-        check_parts(
-            keys,
-            self.len(),
-            version_byte(self.version),
-            self.from,
-            self.to,
-        )
+        check_parts(keys, self.len(), self.version.byte(), self.from, self.to)
     }
 
     /// What it says of itself, as `frame_parts` tells of its bytes: it is long enough for that. It takes no memory. The code computes no tag here; no

@@ -1,5 +1,5 @@
 -- Root services with one instance of consensus: one input, no commands, no rounds and no identifier log. What is the same in all.
-use Rattle.std.specs.Prelude.{◌≡◌, ℕ, zero, suc, ◌+◌, ◌*◌, ◌<◌, ◌≤◌, Bool, true, false, not, ◌==◌, ◌&&◌, nat_lt, if◌then◌else◌, List, [], ◌∷◌, length, Some, None}
+use Rattle.std.specs.Prelude.{◌≡◌, ℕ, zero, suc, ◌+◌, ◌*◌, ◌<◌, ◌≤◌, Bool, true, false, not, ◌==◌, ◌&&◌, nat_lt, if◌then◌else◌, List, [], ◌∷◌, length, Some, None, refl}
 use Rattle.std.proofs.Common.{sym, ◌∙◌, ap, ap₂, subst, arith, ne_eqb}
 use Rattle.std.proofs.lemmas.Bool.{eqb-true, le-ltb, not-false, cond-false, both_ways}
 use Rattle.ritas_base.specs.declared.slot.Slot.{Slot}
@@ -10,7 +10,8 @@ use Rattle.ritas_base.specs.Slots.{slot_fault, has_class}
 use Rattle.frame_codec.specs.Format.{Is}
 use Rattle.frame_codec.specs.Grammar.{value}
 use Rattle.ritas_base.specs.Limits.{number_limit}
-use Rattle.layer_api.specs.Windows.{command_window, rounds_kept}
+use Rattle.layer_api.specs.Windows.{command_window, rounds_kept, lies_behind}
+use Rattle.ritas_base.specs.Versions.{has_past}
 use Rattle.layer_api.specs.Words.{Word, Ask, Hear, asked, AreFresh}
 use Rattle.layer_api.specs.FreshLaws.{fresh_other}
 use Rattle.layer_api.specs.PurposeLaws.{commands_of}
@@ -115,11 +116,12 @@ module _ (r : ServiceRules) (one : HasOneInstance r) where
     -- no slot is ever past
     never_past : (seat : Seat) (w : List Word) (s : Slot) → is_past r seat w s ≡ false
     never_past seat w s =
-        ap₂ (λ (b k : ℕ). if s.class == 1 then nat_lt (s.a + command_window) b else nat_lt (s.a + rounds_kept) k) (one.base seat w s.origin) (one.completed seat w) ∙ none (s.class == 1)
+        ap₂ (lies_behind seat.mode.version s) (one.base seat w s.origin) (one.completed seat w) ∙ none (has_past seat.mode.version) (s.class == 1)
       where
-        none : (command : Bool) → (if command then nat_lt (s.a + command_window) 0 else nat_lt (s.a + rounds_kept) 0) ≡ false
-        none true = le-ltb (s.a + command_window) 0 (omega arith)
-        none false = le-ltb (s.a + rounds_kept) 0 (omega arith)
+        none : (past command : Bool) → (past && (if command then nat_lt (s.a + command_window) 0 else nat_lt (s.a + rounds_kept) 0)) ≡ false
+        none false command = refl
+        none true true = le-ltb (s.a + command_window) 0 (omega arith)
+        none true false = le-ltb (s.a + rounds_kept) 0 (omega arith)
 
     pub instance_word_laws : WordLaws r
     instance_word_laws = record {

@@ -97,9 +97,9 @@ pub record ServiceRules : Type 0 where
 abbrev pub said : ServiceRules → Seat → List Word → List Say
 said r seat w = all_said (r.says seat) w
 
--- whether a slot's command number or round lies too far behind what is finished
+-- whether a slot's command number or round lies too far behind what is finished, in versions 1 and 2
 abbrev pub is_past : ServiceRules → Seat → List Word → Slot → Bool
-is_past r seat w s = lies_behind s (r.base seat w s.origin) (r.completed seat w)
+is_past r seat w s = lies_behind seat.mode.version s (r.base seat w s.origin) (r.completed seat w)
 
 -- or too far ahead of it
 abbrev pub is_ahead : ServiceRules → Seat → List Word → Slot → Bool

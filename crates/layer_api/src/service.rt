@@ -9,7 +9,7 @@ ghost use Rattle.layer_api.specs.OneLog.{OneLog};
 ghost use Rattle.layer_api.specs.OpeningLaws.{OpensDown};
 
 use crate::outcome::Outcome;
-use ritas_base::{Coin, Id, Mem, Params, Say, Slot};
+use ritas_base::{Coin, Id, Mem, Mode, Params, Say, Slot};
 use std::alloc::Global;
 
 /// A root service over broadcasts: it is told inputs and what slots delivered, and says what to broadcast.
@@ -30,10 +30,11 @@ pub trait Service: Drop + Sized {
     fn serves(root: u8) -> bool
         ensures { result ≡ rules.serves root };
 
-    /// The service of replica `me`, before any word. The one error is want of memory.
-    fn new(alloc: Global, p: &Params, me: u8) -> Result<Self, Mem>
+    /// The service of replica `me` in a session of this mode, before any word. The one error is want of memory.
+    fn new(alloc: Global, p: &Params, mode: &Mode, me: u8) -> Result<Self, Mem>
         requires { me < p.now.n }
-        ensures { IfOk result (λ s. (seat : Seat) → seat.numbers ≡ p.now → seat.me ≡ me → stands s seat []) };
+        ensures { IfOk result (λ s. (seat : Seat) → seat.numbers ≡ p.now → seat.mode ≡ mode.now → seat.me ≡ me
+            → stands s seat []) };
 
     /// Takes an input, and appends the broadcasts that it newly starts.
     ///

@@ -2,11 +2,11 @@
 ghost use Rattle.std.specs.Prelude.{◌≡◌};
 ghost use Rattle.layer_api.specs.Windows.{command_window, rounds_kept, rounds_ahead};
 
-/// Of an origin's commands so many are in the window, from the least on that isn't finished, and so many more are kept
-/// behind it.
+/// Of an origin's commands so many are in the window, from the least on that isn't finished; where there is a past, so many
+/// more are kept behind it.
 pub const COMMAND_WINDOW: u32 = 64;
 
-/// So many rounds are kept behind the current one.
+/// Where there is a past, so many rounds are kept behind the current one.
 pub const ROUNDS_KEPT: u32 = 2;
 
 /// So many rounds are taken ahead of the current one.

@@ -1,7 +1,7 @@
 -- Bytes: when numbers are bytes, the byte of a version of frames, and the keys of a row.
 use Rattle.std.specs.Prelude.{ℕ, ◌<◌, ◌-◌, List, ◌++◌, length, replicate, slice_index}
 use Rattle.ritas_base.specs.declared.mode.FrameVersion.{FrameVersion}
-use Rattle.ritas_base.specs.declared.mode.FrameVersion.TheVariants.{One, Two}
+use Rattle.ritas_base.specs.declared.mode.FrameVersion.TheVariants.{One, Two, Three}
 
 -- each of these numbers is a byte
 abbrev pub IsBytes : List ℕ → Type 0
@@ -11,6 +11,7 @@ IsBytes bytes = (i : ℕ) → slice_index bytes i < 256
 abbrev pub version_byte : FrameVersion → ℕ
 version_byte One = 1
 version_byte Two = 2
+version_byte Three = 3
 
 -- what stands where there is no key
 abbrev pub zero_key : List ℕ

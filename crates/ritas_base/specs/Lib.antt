@@ -1,6 +1,7 @@
 pub mod Numbers
 pub mod Limits
 pub mod Bytes
+pub mod Versions
 pub mod Places
 pub mod Members
 pub mod MemberLaws

@@ -4,6 +4,7 @@ ghost use Rattle.std.specs.Prelude.{◌≡◌, Some, None, MatchResult, OnOk, if
 ghost use Rattle.ritas_base.specs.Numbers.{IsSession};
 ghost use Rattle.ritas_base.specs.Slots.{slot_fault, slot_bytes, by_echo, command_slot, form_of, has_class, has_count, within};
 ghost use Rattle.ritas_base.specs.RootServices.{root_number};
+ghost use Rattle.ritas_base.specs.Versions.{reliable_form};
 
 use crate::limits::NUMBER_LIMIT;
 use crate::mode::{FrameVersion, Mode, Vect};
@@ -55,6 +56,17 @@ fn has_class(service: RootService, class: u8) -> bool
         RootService::MultiValued => class >= 3 && class <= 5,
         RootService::Vector => class >= 2 && class <= 5,
         RootService::Atomic | RootService::Direct => class >= 1 && class <= 5,
+    }
+}
+
+// The form that reliable broadcast has at slots of a class.
+fn reliable_form(version: FrameVersion, class: u8) -> u8
+    ensures { result ≡ reliable_form version class }
+{
+    match version {
+        FrameVersion::One => 1,
+        FrameVersion::Two => 3,
+        FrameVersion::Three => { if class == 5 { 1 } else { 3 } }
     }
 }
 
@@ -166,9 +178,6 @@ impl Slot {
         if self.by_echo(mode) {
             return 2;
         }
-        match mode.version {
-            FrameVersion::One => 1,
-            FrameVersion::Two => 3,
-        }
+        reliable_form(mode.version, self.class)
     }
 }

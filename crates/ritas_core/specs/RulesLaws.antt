@@ -10,7 +10,8 @@ use Rattle.ritas_base.specs.declared.mode.Vect.{Vect}
 use Rattle.ritas_base.specs.declared.mode.Vect.TheVariants.{Echo, Reliable}
 use Rattle.ritas_base.specs.Numbers.{Numbers}
 use Rattle.ritas_base.specs.Places.{first_failed}
-use Rattle.ritas_base.specs.Slots.{slot_fault, within, has_class, has_number, has_attempt, has_count, by_echo, reliable_form, form_of}
+use Rattle.ritas_base.specs.Slots.{slot_fault, within, has_class, has_number, has_attempt, has_count, by_echo, form_of}
+use Rattle.ritas_base.specs.Versions.{reliable_form}
 use Rattle.layer_api.specs.Broadcast.{BroadcastRules}
 use Rattle.layer_api.specs.OneValue.{ValueLaws}
 use Rattle.reliable_bcast.specs.Laws.Bracha.{value_laws_of_bracha}

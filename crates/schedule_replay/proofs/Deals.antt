@@ -13,7 +13,7 @@ use Rattle.ritas_base.specs.Members.{has_member}
 use Rattle.layer_api.specs.Broadcast.{BroadcastRules}
 use Rattle.keyed_channel.specs.Keyed.{tags_of}
 use Rattle.layer_api.specs.Service.{ServiceRules}
-use Rattle.ritas_base.specs.Slots.{reliable_form}
+use Rattle.ritas_base.specs.Versions.{reliable_form}
 use Rattle.sha2.proofs.Facts256.{length-sha256}
 use Rattle.ritas_core.specs.Rules.{HasForm, other_form}
 use Rattle.ritas_core.specs.RulesLaws.{kinds_fit}

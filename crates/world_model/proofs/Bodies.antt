@@ -10,7 +10,8 @@ use Rattle.ritas_base.specs.declared.mode.Mode.{Mode}
 use Rattle.ritas_base.specs.declared.mode.FrameVersion.{FrameVersion}
 use Rattle.ritas_base.specs.declared.mode.FrameVersion.TheVariants.{One, Two}
 use Rattle.ritas_base.specs.declared.slot.Slot.{Slot}
-use Rattle.ritas_base.specs.Slots.{by_echo, reliable_form, form_of}
+use Rattle.ritas_base.specs.Slots.{by_echo, form_of}
+use Rattle.ritas_base.specs.Versions.{reliable_form}
 use Rattle.ritas_base.specs.Numbers.{Numbers, IsSession}
 use Rattle.frame_codec.specs.Body.{kind_byte, spelling, body_answer, is_of_form}
 use Rattle.ritas_base.specs.Bytes.{IsBytes}

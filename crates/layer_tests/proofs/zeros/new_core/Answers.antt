@@ -5,7 +5,7 @@ use Rattle.ritas_base.specs.declared.mode.Mode.{Mode}
 use Rattle.ritas_base.specs.declared.mode.Vect.{Vect}
 use Rattle.ritas_base.specs.declared.mode.Vect.TheVariants.{Echo, Reliable}
 use Rattle.ritas_base.specs.declared.mode.FrameVersion.TheVariants.{One}
-use Rattle.ritas_base.specs.Slots.{reliable_form}
+use Rattle.ritas_base.specs.Versions.{reliable_form}
 use Rattle.ritas_core.specs.Rules.{other_form}
 use Rattle.layer_tests.proofs.zeros.new_core.Goals as goal
 
