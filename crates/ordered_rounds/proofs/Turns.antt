@@ -27,7 +27,6 @@ use Rattle.ordered_rounds.specs.Waiting.{decision_in, Knows}
 use Rattle.ordered_rounds.specs.Turning.{IsMidway, IsRoundDue, IsGoing, IsNow, Poised, Turned}
 use Rattle.ordered_rounds.specs.Laws.Getters.{full_not_spent, AllShow}
 use Rattle.ordered_rounds.specs.declared.place.Place.{Place}
-use Rattle.ordered_rounds.specs.declared.boxes.Boxes.{Boxes}
 use Rattle.ordered_rounds.specs.declared.ordered.Ordered.{Ordered}
 use Rattle.ordered_rounds.proofs.Stepped.{some_value, Stays, Goes, words_heard, was_asked, not_spent_before}
 
@@ -187,7 +186,7 @@ module _ {V : Type 0} (stands : V → Desk → List Word → Type 0) (v : RoundR
     older_next a (suc k) e more few small =
         subst (λ (o : Option V). Stood stands o (round_desk v seat a) (round_words v seat a (c ∷ w)))
         (sym (s.older k (λ past.
-            let l = kept_recent seat.mode.version _ a few (sym (ap has_past m.seated.version) ∙ past) in omega (arith, e, l))))
+        let l = kept_recent seat.mode.version _ a few (sym (ap has_past m.seated.version) ∙ past) in omega (arith, e, l))))
         (older_shifted a k (e ∙ goes.advances.next) (ap (λ (i : ℕ). is_kept seat.mode.version i a) (sym goes.advances.next) ∙ few) small)
 
     due_next : IsRoundDue stands v shown seat w c

@@ -1,5 +1,5 @@
 -- The boxes of the rounds that are kept: that of the current round, and those of rounds before it.
-use Rattle.std.specs.Prelude.{◌≡◌, ℕ, zero, suc, ◌+◌, ◌<◌, ◌≤◌, nat_lt, ◌==◌, Bool, true, false, List, [], ◌∷◌, ◌++◌, take, Option, Some, None, Result, if◌then◌else◌}
+use Rattle.std.specs.Prelude.{◌≡◌, ℕ, zero, suc, ◌+◌, ◌-◌, ◌<◌, ◌≤◌, nat_lt, ◌==◌, Bool, true, false, List, [], ◌∷◌, ◌++◌, take, Option, Some, None, Result, if◌then◌else◌}
 use Rattle.std.specs.List.{slice_get}
 use Rattle.std.specs.VecDeque.{deque_len, deque_capacity}
 use Rattle.ritas_base.specs.Versions.{has_past}
@@ -34,7 +34,7 @@ IsExchanged old new k one = (j : ℕ) → box_at new j ≡ (if j == k then Some 
 
 -- the boxes of the rounds before the current one, once it is complete: where there is a past, two at most, the latest
 abbrev pub older_then : {V : Type 0} → FrameVersion → List V → V → List V
-older_then version older one = one ∷ (if has_past version then take 1 older else older)
+older_then version older one = one ∷ (if has_past version then take (rounds_kept - 1) older else older)
 
 -- there is memory for them
 pub record HasRoom {V : Type 0} (version : FrameVersion) (b : Boxes V) : Type 0 where
