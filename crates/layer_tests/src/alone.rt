@@ -11,8 +11,8 @@ use std::alloc::Global;
 use std::process::Abort;
 use vector_consensus::{Vc, VcRoot};
 
-// The service of a session's one replica and of this root service, which is handed a value and hears what it says. It promises nothing, so that
-// what calls it has a short proof.
+// The service of a session's one replica and of this root service, which is handed a value and hears what it
+// says. It promises nothing, so that what calls it has a short proof.
 fn alone<S: Service>(
     rt: &impl Abort,
     alloc: Global,

@@ -1,6 +1,9 @@
 //! The boxes of the rounds that are kept.
 
-ghost use Rattle.std.specs.Prelude.{◌≡◌, ℕ, suc, None, Some, [], option_copied, option_map, OnOk};
+ghost use Rattle.std.specs.Prelude.{◌≡◌, ℕ, suc, max, true, None, Some, [], option_copied, option_map, OnOk};
+ghost use Rattle.std.specs.VecDeque.{deque_capacity};
+ghost use Rattle.ritas_base.specs.Versions.{has_past};
+ghost use Rattle.layer_api.specs.Windows.{rounds_kept};
 ghost use Rattle.ordered_rounds.specs.Boxes.{box_at, opens_in, spent_in, vector_by_box, last_in, older_then, HasRoom, BoxHears, HearsBox};
 
 use crate::round_box::RoundBox;
@@ -9,8 +12,8 @@ use ritas_base::{Coin, FrameVersion, Mem, Say, Slot};
 use std::alloc::Global;
 use std::collections::VecDeque;
 
-/// The boxes of the current round, once it began, and of rounds before it: where there is a past of the two before it,
-/// and where there is none of all.
+/// The boxes of the current round, once it began, and of rounds before it: where there is a past, of the two
+/// before it, and where there is none, of all.
 #[derive(Drop)]
 pub(crate) struct Boxes<V: RoundBox> {
     /// Of the current round, once it began.
@@ -116,7 +119,8 @@ impl<V: RoundBox> Boxes<V> {
         value: &[u8],
         made: &mut Vec<Say>,
     ) -> Result<(), Mem>
-        ensures { (k : ℕ) → k ≡ suc place → HearsBox V.stands V.rules V.live V.shown (C.bits coin.now) k self.old self.new slot.now value.now made.old.items made.new.items result }
+        ensures { (k : ℕ) → k ≡ suc place
+            → HearsBox V.stands V.rules V.live V.shown (C.bits coin.now) k self.old self.new slot.now value.now made.old.items made.new.items result }
     {
         match self.older.get_mut(place) {
             Some(one) => one.heard(alloc, coin, slot, value, made),
@@ -142,27 +146,31 @@ impl<V: RoundBox> Boxes<V> {
         }
     }
 
-    /// Takes the memory that `shift` needs. For want of memory all stays as it was.
+    /// Takes the memory that `shift` needs: where there is a past, for two boxes and no more. For want of memory
+    /// the boxes stay as they were.
     pub(crate) fn reserve(&mut self, version: FrameVersion) -> Result<(), Mem>
         ensures current { self.new.current ≡ self.old.current }
         ensures older { self.new.older.items ≡ self.old.older.items }
         ensures room { OnOk result (HasRoom version self.new) }
+        ensures few { OnOk result (has_past version ≡ true
+            → deque_capacity self.new.older ≡ max (deque_capacity self.old.older) rounds_kept) }
     {
         if version.has_past() {
-            let kept = (ROUNDS_KEPT as usize).saturating_sub(self.older.len());
-            self.older.reserve_exact(kept)?;
+            let room = (ROUNDS_KEPT as usize).saturating_sub(self.older.len());
+            self.older.reserve_exact(room)?;
         } else {
             self.older.reserve(1)?;
         }
         Ok(())
     }
 
-    /// The current round is complete: its box is now that of the round before the current one. Where there is a past, the
-    /// oldest is dropped where there are three. It takes no memory.
+    /// The current round is complete: its box is now that of the round before the current one. Where there is a past,
+    /// the oldest is dropped if there are three then. It takes no memory.
     pub(crate) fn shift(&mut self, version: FrameVersion)
         requires room { HasRoom version self.old }
         ensures current { self.new.current ≡ None }
-        ensures older { (one : V) → self.old.current ≡ Some one → self.new.older.items ≡ older_then version self.old.older.items one }
+        ensures older { (one : V) → self.old.current ≡ Some one
+            → self.new.older.items ≡ older_then version self.old.older.items one }
     {
         if version.has_past() {
             self.older.truncate(ROUNDS_KEPT as usize - 1);

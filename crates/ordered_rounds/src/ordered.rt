@@ -18,12 +18,13 @@ use std::alloc::Global;
 /// them. The round is complete once it is decided and the command of each identifier is delivered that the decision
 /// wants; those that the log hasn't are appended to it in ascending order, by origin and then by number.
 ///
-/// It keeps identifiers and no commands: those that were delivered and aren't in the log, and the log. In versions 1 and 2
-/// of a session it keeps of the rounds the boxes of the current one and of the two before it, and what an older round
-/// delivers is past. In version 3 nothing is past: it keeps the box of each round to the end of the session, so that its
-/// memory grows by a box with each round. A slot of a round costs what it costs the round's box, whichever round it is, and
-/// a command the logarithm of how many identifiers are kept; while the current round waits, either costs that for each
-/// identifier that it waits for, up to the first whose command isn't there. There are 1,000,000 rounds at most.
+/// It keeps identifiers and no commands: those that were delivered and aren't in the log, and the log. In
+/// versions 1 and 2 of a session it keeps of the rounds the boxes of the current one and of the two before
+/// it, and what an older round delivers is past. In version 3 nothing is past: it keeps the box of each round
+/// that began, to the end of the session, so that each round takes the memory of one box more. A slot of a
+/// round costs what it costs the round's box, whichever round it is, and a command the logarithm of how many
+/// identifiers are kept; while the current round waits, either costs that for each identifier that it waits
+/// for, up to the first whose command isn't there. There are 1,000,000 rounds at most.
 ///
 /// Memory is taken for identifiers, for boxes, for what is proposed and for what is said. After want of memory the value
 /// isn't `live`; its getters then answer as before the word or as after it, and the log lies between.

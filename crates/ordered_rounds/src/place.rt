@@ -1,4 +1,5 @@
-//! Whose service it is: the numbers of the session and its version, the replica, and the last attempt of a round.
+//! Whose service it is: the numbers of the session and its version, the replica, and the last attempt of a
+//! round.
 
 ghost use Rattle.std.specs.Prelude.{◌≡◌, ◌<◌, if◌then◌else◌};
 
@@ -25,7 +26,8 @@ impl Place {
     ghost use Rattle.ritas_base.specs.Slots.{has_tries};
     ghost use Rattle.ordered_rounds.specs.Rounds.{is_kept};
 
-    /// The place of replica `me` in a session of these numbers and this mode, where rounds are those of this root service.
+    /// The place of replica `me` in a session of these numbers and this mode, where rounds are those of this root
+    /// service.
     pub(crate) fn new(p: &Params, mode: &Mode, me: u8, service: RootService) -> Place
         requires { me < p.now.n }
         ensures last { result.last ≡ (if has_tries (root_number service) then p.now.f else 0) }
@@ -43,8 +45,8 @@ impl Place {
         }
     }
 
-    /// Whether a round is kept where so many are complete: where there is a past, the current one and the two before it are,
-    /// and where there is none, each is.
+    /// Whether a round is kept where so many are complete: where there is a past, the current one and the two
+    /// before it are, and where there is none, each is.
     pub(crate) fn keeps(&self, completed: u32, round: u32) -> bool
         ensures { result ≡ is_kept self.now.version completed round }
     {
