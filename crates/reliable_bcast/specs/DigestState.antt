@@ -30,7 +30,8 @@ abbrev pub value_with_digest : List Known → List ℕ → Option (List ℕ)
 value_with_digest [] d = None
 value_with_digest (k ∷ ks) d = if bytes_eq k.digest d then Some k.value else value_with_digest ks d
 
--- the value keeps what these calls tell at this place. Once a digest is carried, nothing but who said ECHO and READY is kept of these.
+-- the value keeps what these calls tell at this place: of ECHO and READY no more than who said them, once a digest is
+-- carried
 pub record KeepsDigests (b : DigestRb) (at : Place) (tags : Tags) (h : List Call) : Type 0 where
   pub small : at.numbers.n ≤ 31
   pub params : b.params ≡ at.numbers

@@ -1,5 +1,5 @@
--- Votes as rows: the set of those who voted, a row for each replica, and the set of those whose vote is in theirs. Rows are dropped once
--- nothing is counted any more; who voted stays.
+-- Votes as rows: the set of those who voted, a row for each replica, and the set of those whose vote is in theirs.
+-- Where votes aren't counted any more the rows are dropped, and who voted stays.
 use Rattle.std.specs.Prelude.{◌≡◌, ℕ, ◌<◌, Bool, true, false, List, [], length, map, Option, Some, None, if◌then◌else◌, slice_index_or, ◌⊎◌}
 use Rattle.ritas_base.specs.Members.{has_member}
 use Rattle.ritas_base.specs.History.{replicas}

@@ -204,8 +204,8 @@ impl DigestRb {
         Ok(())
     }
 
-    /// Keeps the digest that is carried, once, and says WANT of it where its value isn't known. No ECHO and no READY is counted after
-    /// that, so that their digests are dropped.
+    /// Keeps the digest that is carried, once, and says WANT of it where its value isn't known. ECHO and READY aren't
+    /// counted after that, so their digests are dropped.
     fn carry(&mut self, alloc: Global, digest: &[u8; 32], out: &mut Vec<Msg>) -> Result<(), Mem>
         ensures ok { OnOk result (Carries self.old self.new digest.now out.old.items out.new.items) }
         ensures err { OnErr result (self.new ≡ self.old) }

@@ -1,4 +1,4 @@
-//! Votes for digests: the first one of each replica counts, and each is a row of 32 bytes, until nothing is counted any more.
+//! Votes for digests: the first one of each replica counts. Each is a row of 32 bytes, until the rows are dropped.
 
 ghost use Rattle.std.specs.Prelude.{◌≡◌, ℕ, ◌≤◌, true, not, [], OnErr, OnOk, None, Some, count_by, slice_set, slice_index_or, length, nat_lt, ◌&&◌, replicate};
 ghost use Rattle.ritas_base.specs.History.{is_value};
@@ -11,8 +11,8 @@ use std::alloc::Global;
 use std::marker::Model;
 use vote_lanes::rows_equal;
 
-/// The first digest from each of n replicas. Contracts see a list with a place for each replica, in which a digest that isn't kept
-/// is empty.
+/// The first digest from each of n replicas. Contracts see a list with a place for each replica, in which a digest
+/// that isn't kept is empty.
 #[derive(Drop)]
 pub(crate) struct DigestVotes {
     n: u8,
@@ -92,7 +92,8 @@ impl DigestVotes {
         self.voters = self.voters.with(k);
     }
 
-    /// Adds the first digest of a replica, or the replica alone where nothing is counted any more. For want of memory nothing changes.
+    /// Adds the first digest of a replica, or the replica alone where digests aren't counted any more. For want of memory
+    /// nothing changes.
     pub(crate) fn add(
         &mut self,
         alloc: Global,
