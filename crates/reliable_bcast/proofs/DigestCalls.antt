@@ -1,7 +1,7 @@
 -- What the calls on the state promise, for all calls that the state stands for, in reliable broadcast by digests.
-use Rattle.std.proofs.Common.{◌≡◌, ◌∙◌, ap, subst, sym, ◌++◌, [], ◌∷◌, List, ℕ, ◌<◌, Bool, true, false, Some, None, inl, inr, refl, arith, ◌⊎◌}
-use Rattle.std.specs.Prelude.{Option, Result, Ok, Err, OnOk, OnErr, is_err, is_some, is_none, length}
-use Rattle.std.proofs.lemmas.List.{length-append}
+use Rattle.std.proofs.Common.{◌≡◌, ◌∙◌, ap, subst, sym, ◌++◌, [], ◌∷◌, List, ℕ, zero, suc, get_or, ◌<◌, Bool, true, false, Some, None, inl, inr, refl, arith, ◌⊎◌}
+use Rattle.std.specs.Prelude.{Option, Result, Ok, Err, OnOk, OnErr, is_err, is_some, is_none, length, nat_lt, ◌&&◌}
+use Rattle.std.proofs.lemmas.List.{length-append, length-map}
 use Rattle.std.proofs.lemmas.Bool.{both_ways}
 use Rattle.ritas_base.specs.declared.bytes.Mem.{Mem}
 use Rattle.ritas_base.specs.declared.item.Kind.{Kind}
@@ -28,6 +28,7 @@ use Rattle.reliable_bcast.specs.declared.digest_rb.DigestRb.{DigestRb}
 use Rattle.reliable_bcast.specs.Laws.Steps.{awaited_is, nobody_yet}
 use Rattle.ritas_base.specs.Places.{is_awaited}
 use Rattle.reliable_bcast.specs.Digests.{out_by_digest, by_digest}
+use Rattle.reliable_bcast.specs.VoteRows.{without_value, without_values, dropped_if}
 use Rattle.reliable_bcast.specs.Laws.DigestShown.{shows_out}
 use Rattle.reliable_bcast.specs.DigestState.{value_with_digest, value_for_full, delivered_of, digest_shown, KeepsDigests, IsNew, IsSameState, DigestsUnchanged, AfterInit, AfterValue, settled_by_digest, ready_message, want_message, echoed_by, readied_by, want_answer, after_ready, HearsInit, HearsEcho, HearsReady, HearsWant, HearsValue, HearsByDigest}
 use Rattle.reliable_bcast.proofs.DigestSteps.{IsStep, step_start, step_init, step_value, step_echo, step_ready, step_want}
@@ -183,6 +184,24 @@ half_value t old new i before after (Err x) kind e hears =
 awaits : (n : ℕ) (h : List Call) (kind : Kind) (ws : List (Option (List ℕ))) (k : ℕ) (b : Bool) → ws ≡ firsts n h kind → k < n → is_awaited ws k ≡ b → is_none (first h k kind) ≡ b
 awaits n h kind ws k b kept lt is = sym (awaited_is n h kind k lt) ∙ (ap (λ (l : List (Option (List ℕ))). is_awaited l k) (sym kept) ∙ is)
 
+-- so do votes of which the digests are dropped
+awaits_kept : (n : ℕ) (h : List Call) (kind : Kind) (ws : List (Option (List ℕ))) (dropped : Bool) (k : ℕ) (b : Bool) → ws ≡ dropped_if dropped (firsts n h kind) → k < n → is_awaited ws k ≡ b
+    → is_none (first h k kind) ≡ b
+awaits_kept n h kind ws dropped k b kept lt is =
+    awaits n h kind (firsts n h kind) k b refl lt (sym (alike dropped) ∙ (ap (λ (l : List (Option (List ℕ))). is_awaited l k) (sym kept) ∙ is))
+  where
+    same_place : (votes : List (Option (List ℕ))) (k : ℕ) → is_none (get_or (without_values votes) k None) ≡ is_none (get_or votes k None)
+    same_place [] k = refl
+    same_place (None ∷ votes) zero = refl
+    same_place (Some v ∷ votes) zero = refl
+    same_place (o ∷ votes) (suc k) = same_place votes k
+
+    alike : (dropped : Bool) → is_awaited (dropped_if dropped (firsts n h kind)) k ≡ is_awaited (firsts n h kind) k
+    alike true =
+        ap (λ (m : ℕ). nat_lt k m && is_none (get_or (without_values (firsts n h kind)) k None)) (length-map (firsts n h kind) without_value)
+        ∙ ap (λ (t : Bool). nat_lt k (length (firsts n h kind)) && t) (same_place (firsts n h kind) k)
+    alike false = refl
+
 length_of : (v : List ℕ) → Is digest v → length v ≡ 32
 unfolding digest
 length_of v (front, rest, parts, len, ok, nil) = ap length parts ∙ (length-append front rest ∙ (let none = ap length nil in omega (arith, len, none)))
@@ -202,14 +221,14 @@ heard_echo : (t : Tagging) (old new : DigestRb) (i : Item) (before after : List 
     → HearsEcho old new i before after r → TakesAs t old new i before after r
 heard_echo t old new i before after (Ok Took) kind e hears =
     let none : ForAll t old i (λ at tags h. first h i.from Echo ≡ None) =
-    λ at tags h keeps tagger may. missing (first h i.from Echo) (awaits at.numbers.n h Echo old.echoes i.from true keeps.echoes may.sender hears.0) in
+    λ at tags h keeps tagger may. missing (first h i.from Echo) (awaits_kept at.numbers.n h Echo old.echoes (is_some old.full) i.from true keeps.echoes may.sender hears.0) in
     took t old new i before after (ready_message (echoed_by old i) i.value)
     (λ at tags h keeps tagger may.
     subst (λ (b : DigestRb). IsStep at tags h (Take i) b (ready_message (echoed_by old i) i.value)) (sym hears.1) (step_echo old at tags h i keeps kind may.sender (none at tags h keeps tagger may)))
     (λ at tags h keeps tagger may. of_kind h i Echo kind ∙ none at tags h keeps tagger may) hears.2
 heard_echo t old new i before after (Ok Repeat) kind e hears =
     again t old new i before after hears.1
-    (λ at tags h keeps tagger may. ap is_some (of_kind h i Echo kind) ∙ there (first h i.from Echo) (awaits at.numbers.n h Echo old.echoes i.from false keeps.echoes may.sender (hears.0 (whole_digest at tags h i Echo kind refl may))))
+    (λ at tags h keeps tagger may. ap is_some (of_kind h i Echo kind) ∙ there (first h i.from Echo) (awaits_kept at.numbers.n h Echo old.echoes (is_some old.full) i.from false keeps.echoes may.sender (hears.0 (whole_digest at tags h i Echo kind refl may))))
 heard_echo t old new i before after (Err x) kind e hears = absurd (cc)
 
 half_echo : (t : Tagging) (old new : DigestRb) (i : Item) (before after : List Msg) (r : Result Heard Mem) → i.kind ≡ Echo → is_err r ≡ true
@@ -218,11 +237,11 @@ half_echo t old new i before after (Ok Took) kind e hears = absurd (cc)
 half_echo t old new i before after (Ok Repeat) kind e hears = absurd (cc)
 half_echo t old new i before after (Err x) kind e hears =
     half t old new i before after x hears.1
-    (λ at tags h keeps tagger may. of_kind h i Echo kind ∙ missing (first h i.from Echo) (awaits at.numbers.n h Echo old.echoes i.from true keeps.echoes may.sender hears.0))
+    (λ at tags h keeps tagger may. of_kind h i Echo kind ∙ missing (first h i.from Echo) (awaits_kept at.numbers.n h Echo old.echoes (is_some old.full) i.from true keeps.echoes may.sender hears.0))
     (λ at tags h keeps tagger may. inl (hears.2 ∙ shows_out old at tags h keeps))
 
 ready_first : (t : Tagging) (old : DigestRb) (i : Item) → is_awaited old.readies i.from ≡ true → ForAll t old i (λ at tags h. first h i.from Ready ≡ None)
-ready_first t old i is = λ at tags h keeps tagger may. missing (first h i.from Ready) (awaits at.numbers.n h Ready old.readies i.from true keeps.readies may.sender is)
+ready_first t old i is = λ at tags h keeps tagger may. missing (first h i.from Ready) (awaits_kept at.numbers.n h Ready old.readies (is_some old.full) i.from true keeps.readies may.sender is)
 
 heard_ready : (t : Tagging) (old new : DigestRb) (i : Item) (before after : List Msg) (r : Result Heard Mem) → i.kind ≡ Ready → is_err r ≡ false
     → HearsReady old new i before after r → TakesAs t old new i before after r
@@ -234,7 +253,7 @@ heard_ready t old new i before after (Ok Took) kind e hears =
     (λ at tags h keeps tagger may. of_kind h i Ready kind ∙ none at tags h keeps tagger may) hears.2
 heard_ready t old new i before after (Ok Repeat) kind e hears =
     again t old new i before after hears.1
-    (λ at tags h keeps tagger may. ap is_some (of_kind h i Ready kind) ∙ there (first h i.from Ready) (awaits at.numbers.n h Ready old.readies i.from false keeps.readies may.sender (hears.0 (whole_digest at tags h i Ready kind refl may))))
+    (λ at tags h keeps tagger may. ap is_some (of_kind h i Ready kind) ∙ there (first h i.from Ready) (awaits_kept at.numbers.n h Ready old.readies (is_some old.full) i.from false keeps.readies may.sender (hears.0 (whole_digest at tags h i Ready kind refl may))))
 heard_ready t old new i before after (Err x) kind e hears = absurd (cc)
 
 half_ready : (t : Tagging) (old new : DigestRb) (i : Item) (before after : List Msg) (r : Result Heard Mem) → i.kind ≡ Ready → is_err r ≡ true
@@ -345,8 +364,8 @@ new_keeps p me s b new tags =
       slot = new.slot;
       inited = new.inited;
       readied = new.readied;
-      echoes = new.echoes ∙ nobody_yet p.n Echo;
-      readies = new.readies ∙ nobody_yet p.n Ready;
+      echoes = (new.echoes ∙ nobody_yet p.n Echo) ∙ sym (ap (λ (o : Option (List ℕ)). dropped_if (is_some o) (firsts p.n [] Echo)) new.full);
+      readies = (new.readies ∙ nobody_yet p.n Ready) ∙ sym (ap (λ (o : Option (List ℕ)). dropped_if (is_some o) (firsts p.n [] Ready)) new.full);
       wants = new.wants ∙ nobody_yet p.n Want;
       given = λ k lt. new.given k;
       values = λ d. ap (λ (ks : List Known). value_with_digest ks d) new.values;

@@ -1,21 +1,21 @@
 -- What a call does to what is kept is what it does to the calls, in reliable broadcast by digests.
-use Rattle.std.specs.Prelude.{◌≡◌, ℕ, zero, suc, ◌+◌, ◌<◌, ◌≤◌, ◌==◌, Bool, true, false, not, ◌&&◌, ◌||◌, List, [], ◌∷◌, ◌++◌, Option, Some, None, is_some, is_none, nat_lt, cond, length, if◌then◌else◌, slice_set, refl}
+use Rattle.std.specs.Prelude.{◌≡◌, ℕ, zero, suc, ◌+◌, ◌<◌, ◌≤◌, ◌==◌, Bool, true, false, not, ◌&&◌, ◌||◌, List, [], ◌∷◌, ◌++◌, Option, Some, None, is_some, is_none, nat_le, nat_lt, cond, length, if◌then◌else◌, slice_set, refl}
 use Rattle.std.proofs.Common.{sym, ◌∙◌, ap, subst, inl, inr, arith, get_or}
 use Rattle.std.specs.List.{range_with_len}
 use Rattle.std.specs.Option.{option_or}
 use Rattle.std.specs.Str.{bytes_eq}
-use Rattle.std.proofs.lemmas.Bool.{cases_Bool, cases_eq, both_ways, cond-true, cond-false, eq-eqb, ne_eqb, lt-ltb}
-use Rattle.std.proofs.lemmas.List.{append-nil}
+use Rattle.std.proofs.lemmas.Bool.{cases_Bool, cases_eq, both_ways, cond-true, cond-false, eq-eqb, ne_eqb, lt-ltb, or_right, le-leb}
+use Rattle.std.proofs.lemmas.List.{append-nil, map-set}
 use Rattle.std.proofs.lemmas.Slice.Eq.{bytes_eq-Decides}
 use Rattle.ritas_base.specs.declared.item.Kind.{Kind}
 use Rattle.ritas_base.specs.declared.item.Kind.TheVariants.{Init, Echo, Ready, Want, Value}
 use Rattle.ritas_base.specs.declared.item.Item.{Item}
 use Rattle.ritas_base.specs.declared.item.Msg.{Msg}
 use Rattle.ritas_base.specs.declared.slot.Slot.{Slot}
-use Rattle.ritas_base.specs.Numbers.{Numbers}
+use Rattle.ritas_base.specs.Numbers.{Numbers, quorum_of, ready_of}
 use Rattle.ritas_base.specs.Members.{has_member}
-use Rattle.ritas_base.specs.Shortest.{option_or_none}
-use Rattle.ritas_base.specs.History.{Call, Start, Take, told, first, started, firsts, is_value, replicas}
+use Rattle.ritas_base.specs.Shortest.{at_shortest_none, option_or_none}
+use Rattle.ritas_base.specs.History.{Call, Start, Take, told, first, started, firsts, voters, is_value, replicas}
 use Rattle.ritas_base.specs.HistoryLaws.{told_mine, told_not_this, told_not_by, firsts_same, firsts_at, firsts_vote, length-firsts}
 use Rattle.ritas_base.specs.Messages.{Place, kind_eq, to_all}
 use Rattle.ritas_base.specs.MessagesLaws.{gained, gained_none, gained_if}
@@ -24,8 +24,10 @@ use Rattle.layer_api.specs.Broadcast.{news}
 use Rattle.layer_api.specs.ReplicaLaws.{range_has, replica_below}
 use Rattle.reliable_bcast.specs.declared.digest_rb.Known.{Known}
 use Rattle.reliable_bcast.specs.declared.digest_rb.DigestRb.{DigestRb}
-use Rattle.reliable_bcast.specs.Bracha.{ready_value, out_by_value as carried_of}
-use Rattle.reliable_bcast.specs.Laws.Steps.{backing, carrying, is_some_or, is_some_or_some, ready_quiet, ready_echo, ready_ready, out_quiet, out_ready}
+use Rattle.reliable_bcast.specs.Bracha.{is_backed, some_backed, ready_value, out_by_value as carried_of}
+use Rattle.reliable_bcast.specs.VoteRows.{without_value, without_values, dropped_if, kept_value}
+use Rattle.reliable_bcast.specs.Laws.Voted.{out_voted}
+use Rattle.reliable_bcast.specs.Laws.Steps.{backing, carrying, unvoted_backed, is_some_or, is_some_or_some, ready_quiet, ready_echo, ready_ready, out_quiet, out_ready}
 use Rattle.reliable_bcast.specs.Digests.{brings, brought_by, if_digest, known, known_of, to_one, value_for, by_digest, echo_of}
 use Rattle.reliable_bcast.specs.Laws.DigestNews.{ones, gain, gain_for, digest_parts, news_is, gained_or, gained_echo, no_ones, ones_alike, same_parts}
 use Rattle.reliable_bcast.specs.Laws.DigestQuiet.{known_same, newly_wanted, want_gain, no_want, no_gain, no_echo, no_ready, start_news}
@@ -155,6 +157,65 @@ answers_are b at tags h c d m keeps more quiet =
         ∙ (ap (λ (s : Slot). ones s (answer_for b d m) (replicas at.numbers.n)) (sym keeps.slot)
         ∙ ap (λ (p : Numbers). ones b.slot (answer_for b d m) (replicas p.n)) (sym keeps.params))
 
+-- ---- votes of which the digests are dropped once one is carried
+
+-- nothing new
+kept_still : (votes : List (Option (List ℕ))) (full full' : Option (List ℕ)) (all all' : List (Option (List ℕ))) → votes ≡ dropped_if (is_some full) all → full' ≡ full → all' ≡ all
+    → votes ≡ dropped_if (is_some full') all'
+kept_still votes full full' all all' kept same calls =
+    kept ∙ (ap (λ (o : Option (List ℕ)). dropped_if (is_some o) all) (sym same) ∙ ap (dropped_if (is_some full')) (sym calls))
+
+-- a vote more
+kept_vote : (dropped : Bool) (votes all : List (Option (List ℕ))) (k : ℕ) (v : List ℕ) → votes ≡ dropped_if dropped all
+    → slice_set votes k (Some (kept_value dropped v)) ≡ dropped_if dropped (slice_set all k (Some v))
+kept_vote true votes all k v kept = ap (λ (l : List (Option (List ℕ))). slice_set l k (Some [])) kept ∙ sym (map-set without_value all k (Some v))
+kept_vote false votes all k v kept = ap (λ (l : List (Option (List ℕ))). slice_set l k (Some v)) kept
+
+-- a digest that is carried now
+kept_carried : (full : Option (List ℕ)) (carries : Bool) (v : List ℕ) (votes all : List (Option (List ℕ))) → votes ≡ dropped_if (is_some full) all
+    → dropped_if (is_none full && carries) votes ≡ dropped_if (is_some (option_or full (if carries then Some v else None))) all
+kept_carried None true v votes all kept = ap without_values kept
+kept_carried None false v votes all kept = kept
+kept_carried (Some d) carries v votes all kept = kept
+
+-- none are dropped yet
+kept_whole : (full : Option (List ℕ)) (votes all : List (Option (List ℕ))) → full ≡ None → votes ≡ dropped_if (is_some full) all → votes ≡ all
+kept_whole full votes all none kept = kept ∙ ap (λ (o : Option (List ℕ)). dropped_if (is_some o) all) none
+
+-- READY is said of what is carried
+carried_ready : (at : Place) (h : List Call) (d : List ℕ) → carried_of at h ≡ Some d → is_some (ready_value at.numbers h) ≡ true
+carried_ready at h d carried = go (ready_value at.numbers h) refl
+  where
+    p : Numbers
+    p = at.numbers
+
+    enough : is_backed p h d ≡ true
+    enough =
+        let votes = out_voted at h d carried in
+        or_right (nat_le (quorum_of p) (voters p.n h Echo d)) (nat_le (ready_of p) (voters p.n h Ready d))
+        (le-leb (ready_of p) (voters p.n h Ready d) (omega (arith, votes)))
+
+    go : (o : Option (List ℕ)) → ready_value p h ≡ o → is_some o ≡ true
+    go None none = absurd (both_ways (is_backed p h d) (unvoted_backed p h (at_shortest_none (some_backed p) h none) d) enough)
+    go (Some v) some = refl
+
+-- a count matters where no digest is carried yet
+or_open : (full : Option (List ℕ)) (r x y : Bool) → ((d : List ℕ) → full ≡ Some d → r ≡ true) → (full ≡ None → x ≡ y) → (r || x) ≡ (r || y)
+or_open None r x y done alike = ap (λ (b : Bool). r || b) (alike refl)
+or_open (Some d) r x y done alike = ap (λ (b : Bool). b || x) (done d refl) ∙ sym (ap (λ (b : Bool). b || y) (done d refl))
+
+not_open : (full : Option (List ℕ)) (r x y : Bool) → ((d : List ℕ) → full ≡ Some d → r ≡ true) → (full ≡ None → x ≡ y) → (not r && x) ≡ (not r && y)
+not_open None r x y done alike = ap (λ (b : Bool). not r && b) (alike refl)
+not_open (Some d) r x y done alike = ap (λ (b : Bool). not b && x) (done d refl) ∙ sym (ap (λ (b : Bool). not b && y) (done d refl))
+
+none_open : (full : Option (List ℕ)) (x y : Bool) → (full ≡ None → x ≡ y) → (is_none full && x) ≡ (is_none full && y)
+none_open None x y alike = alike refl
+none_open (Some d) x y alike = refl
+
+full_open : (full : Option (List ℕ)) (v : List ℕ) (x y : Bool) → (full ≡ None → x ≡ y) → option_or full (if x then Some v else None) ≡ option_or full (if y then Some v else None)
+full_open None v x y alike = ap (λ (b : Bool). if b then Some v else None) (alike refl)
+full_open (Some d) v x y alike = refl
+
 -- ---- one call
 
 pub record IsStep (at : Place) (tags : Tags) (h : List Call) (c : Call) (after : DigestRb) (put : List Msg) : Type 0 where
@@ -193,8 +254,8 @@ step_init b at tags h i new d keeps kind mine none digest state values =
         slot = ap (λ (x : DigestRb). x.slot) state ∙ keeps.slot;
         inited = ap (λ (x : DigestRb). x.inited) state ∙ sym (ap (λ (o : Option (List ℕ)). is_some (option_or (first h at.slot.origin Init) o)) now ∙ is_some_or_some (first h at.slot.origin Init) i.value);
         readied = ap (λ (x : DigestRb). x.readied) state ∙ (keeps.readied ∙ ap is_some (sym (ready_quiet p h (Take i) echo ready)));
-        echoes = ap (λ (x : DigestRb). x.echoes) state ∙ (keeps.echoes ∙ sym (firsts_same p.n h Echo (Take i) echo));
-        readies = ap (λ (x : DigestRb). x.readies) state ∙ (keeps.readies ∙ sym (firsts_same p.n h Ready (Take i) ready));
+        echoes = ap (λ (x : DigestRb). x.echoes) state ∙ kept_still b.echoes b.full new.full _ _ keeps.echoes (ap (λ (x : DigestRb). x.full) state) (firsts_same p.n h Echo (Take i) echo);
+        readies = ap (λ (x : DigestRb). x.readies) state ∙ kept_still b.readies b.full new.full _ _ keeps.readies (ap (λ (x : DigestRb). x.full) state) (firsts_same p.n h Ready (Take i) ready);
         wants = ap (λ (x : DigestRb). x.wants) state ∙ (keeps.wants ∙ sym (firsts_same p.n h Want (Take i) want));
         given = λ k lt. ap (λ (x : DigestRb). has_member x.given k) state ∙ (keeps.given k lt ∙ sym (some_or_none (first h k Value) (told k Value (Take i)) (value k)));
         values = λ e.
@@ -250,8 +311,8 @@ step_value b at tags h i new d keeps kind none digest state values given =
         slot = ap (λ (x : DigestRb). x.slot) state ∙ keeps.slot;
         inited = ap (λ (x : DigestRb). x.inited) state ∙ (keeps.inited ∙ sym (some_or_none (first h at.slot.origin Init) (told at.slot.origin Init (Take i)) (init at.slot.origin)));
         readied = ap (λ (x : DigestRb). x.readied) state ∙ (keeps.readied ∙ ap is_some (sym (ready_quiet p h (Take i) echo ready)));
-        echoes = ap (λ (x : DigestRb). x.echoes) state ∙ (keeps.echoes ∙ sym (firsts_same p.n h Echo (Take i) echo));
-        readies = ap (λ (x : DigestRb). x.readies) state ∙ (keeps.readies ∙ sym (firsts_same p.n h Ready (Take i) ready));
+        echoes = ap (λ (x : DigestRb). x.echoes) state ∙ kept_still b.echoes b.full new.full _ _ keeps.echoes (ap (λ (x : DigestRb). x.full) state) (firsts_same p.n h Echo (Take i) echo);
+        readies = ap (λ (x : DigestRb). x.readies) state ∙ kept_still b.readies b.full new.full _ _ keeps.readies (ap (λ (x : DigestRb). x.full) state) (firsts_same p.n h Ready (Take i) ready);
         wants = ap (λ (x : DigestRb). x.wants) state ∙ (keeps.wants ∙ sym (firsts_same p.n h Want (Take i) want));
         given = λ k lt.
             given k
@@ -304,9 +365,11 @@ step_echo b at tags h i keeps kind within none =
     let value = quiet i Value (ap (λ k. kind_eq k Value) kind) in
     let same = known_same at tags h (Take i) (brings_none at h i (ap (λ k. kind_eq k Init) kind) (ap (λ k. kind_eq k Value) kind)) in
     let more = ready_echo p h i kind none within in
-    let backed : has_backing (echoed_by b i) v ≡ backing p (slice_set (firsts p.n h Echo) i.from (Some v)) (firsts p.n h Ready) v =
-    backed_by b at tags h v _ _ _ _ keeps (voted b.echoes (firsts p.n h Echo) i.from v keeps.echoes) keeps.readies in
+    let votes = kept_vote (is_some b.full) b.echoes (firsts p.n h Echo) i.from v keeps.echoes in
     let test : Bool = backing p (slice_set (firsts p.n h Echo) i.from (Some v)) (firsts p.n h Ready) v in
+    let backed : b.full ≡ None → has_backing (echoed_by b i) v ≡ test =
+    λ none. backed_by b at tags h v _ _ _ _ keeps (kept_whole b.full _ _ none votes) (kept_whole b.full b.readies _ none keeps.readies) in
+    let done : (d : List ℕ) → b.full ≡ Some d → is_some (ready_value p h) ≡ true = λ d is. carried_ready at h d (sym keeps.full ∙ is) in
     record {
       keeps = record {
         small = keeps.small;
@@ -316,9 +379,9 @@ step_echo b at tags h i keeps kind within none =
         inited = keeps.inited ∙ sym (some_or_none (first h at.slot.origin Init) (told at.slot.origin Init (Take i)) (init at.slot.origin));
         readied =
             ap (λ (x : Bool). x || has_backing (echoed_by b i) v) keeps.readied
-            ∙ (ap (λ (x : Bool). is_some (ready_value p h) || x) backed ∙ (sym (is_some_or (ready_value p h) test v) ∙ ap is_some (sym more)));
-        echoes = voted b.echoes (firsts p.n h Echo) i.from v keeps.echoes ∙ sym (firsts_vote p.n h Echo i (ap (λ k. kind_eq k Echo) kind) none within);
-        readies = keeps.readies ∙ sym (firsts_same p.n h Ready (Take i) ready);
+            ∙ (or_open b.full (is_some (ready_value p h)) (has_backing (echoed_by b i) v) test done backed ∙ (sym (is_some_or (ready_value p h) test v) ∙ ap is_some (sym more)));
+        echoes = kept_still _ b.full b.full _ _ votes refl (firsts_vote p.n h Echo i (ap (λ k. kind_eq k Echo) kind) none within);
+        readies = kept_still b.readies b.full b.full _ _ keeps.readies refl (firsts_same p.n h Ready (Take i) ready);
         wants = keeps.wants ∙ sym (firsts_same p.n h Want (Take i) want);
         given = λ k lt. keeps.given k lt ∙ sym (some_or_none (first h k Value) (told k Value (Take i)) (value k));
         values = λ e. keeps.values e ∙ sym (same e);
@@ -326,8 +389,8 @@ step_echo b at tags h i keeps kind within none =
         live = keeps.live;
       };
       said =
-          ap (λ (x : Bool). to_all b.slot Ready (if not b.readied && x then Some v else None)) backed
-          ∙ (ap (λ (x : Bool). to_all b.slot Ready (if not x && test then Some v else None)) keeps.readied
+          ap (λ (x : Bool). to_all b.slot Ready (if not x && has_backing (echoed_by b i) v then Some v else None)) keeps.readied
+          ∙ (ap (λ (x : Bool). to_all b.slot Ready (if x then Some v else None)) (not_open b.full (is_some (ready_value p h)) (has_backing (echoed_by b i) v) test done backed)
           ∙ (ap (λ (s : Slot). to_all s Ready (if not (is_some (ready_value p h)) && test then Some v else None)) keeps.slot
           ∙ sym (news_is at tags h (Take i)
           ∙ (same_parts at.slot _ None _ None _ (if not (is_some (ready_value p h)) && test then Some v else None) _ None _ []
@@ -365,10 +428,13 @@ step_ready b at tags h i keeps kind within none =
     let out = out_ready at h i kind none within in
     let test : Bool = backing p (firsts p.n h Echo) (slice_set (firsts p.n h Ready) i.from (Some v)) v in
     let test2 : Bool = carrying p (slice_set (firsts p.n h Ready) i.from (Some v)) v in
-    let votes = voted b.readies (firsts p.n h Ready) i.from v keeps.readies in
-    let backed : has_backing (readied_by b i) v ≡ test = backed_by b at tags h v _ _ _ _ keeps keeps.echoes votes in
-    let carries : has_carriers (settled_by_digest (readied_by b i) v) v ≡ test2 =
-    ap (λ (x : Numbers). carrying x (slice_set b.readies i.from (Some v)) v) keeps.params ∙ ap (λ (l : List (Option (List ℕ))). carrying p l v) votes in
+    let votes = kept_vote (is_some b.full) b.readies (firsts p.n h Ready) i.from v keeps.readies in
+    let x : Bool = has_carriers (settled_by_digest (readied_by b i) v) v in
+    let backed : b.full ≡ None → has_backing (readied_by b i) v ≡ test =
+    λ none. backed_by b at tags h v _ _ _ _ keeps (kept_whole b.full b.echoes _ none keeps.echoes) (kept_whole b.full _ _ none votes) in
+    let carries : b.full ≡ None → x ≡ test2 =
+    λ none. ap (λ (q : Numbers). carrying q (readied_by b i).readies v) keeps.params ∙ ap (λ (l : List (Option (List ℕ))). carrying p l v) (kept_whole b.full _ _ none votes) in
+    let done : (d : List ℕ) → b.full ≡ Some d → is_some (ready_value p h) ≡ true = λ d is. carried_ready at h d (sym keeps.full ∙ is) in
     let r : Option (List ℕ) = if not (is_some (ready_value p h)) && test then Some v else None in
     let w : Option (List ℕ) = if (is_none (carried_of at h) && test2) && is_none (known at tags h v) then Some v else None in
     record {
@@ -379,21 +445,23 @@ step_ready b at tags h i keeps kind within none =
         slot = keeps.slot;
         inited = keeps.inited ∙ sym (some_or_none (first h at.slot.origin Init) (told at.slot.origin Init (Take i)) (init at.slot.origin));
         readied =
-            ap (λ (x : Bool). x || has_backing (readied_by b i) v) keeps.readied
-            ∙ (ap (λ (x : Bool). is_some (ready_value p h) || x) backed ∙ (sym (is_some_or (ready_value p h) test v) ∙ ap is_some (sym more)));
-        echoes = keeps.echoes ∙ sym (firsts_same p.n h Echo (Take i) echo);
-        readies = votes ∙ sym (firsts_vote p.n h Ready i (ap (λ k. kind_eq k Ready) kind) none within);
+            ap (λ (r : Bool). r || has_backing (readied_by b i) v) keeps.readied
+            ∙ (or_open b.full (is_some (ready_value p h)) (has_backing (readied_by b i) v) test done backed ∙ (sym (is_some_or (ready_value p h) test v) ∙ ap is_some (sym more)));
+        echoes = kept_carried b.full x v b.echoes _ (kept_still b.echoes b.full b.full _ _ keeps.echoes refl (firsts_same p.n h Echo (Take i) echo));
+        readies = kept_carried b.full x v _ _ (kept_still _ b.full b.full _ _ votes refl (firsts_vote p.n h Ready i (ap (λ k. kind_eq k Ready) kind) none within));
         wants = keeps.wants ∙ sym (firsts_same p.n h Want (Take i) want);
         given = λ k lt. keeps.given k lt ∙ sym (some_or_none (first h k Value) (told k Value (Take i)) (value k));
         values = λ e. keeps.values e ∙ sym (same e);
         full =
-            ap (λ (x : Bool). option_or b.full (if x then Some v else None)) carries
+            full_open b.full v x test2 carries
             ∙ (ap (λ (o : Option (List ℕ)). option_or o (if test2 then Some v else None)) keeps.full ∙ sym out);
         live = keeps.live;
       };
       said =
-          said_two b.slot at.slot b.readied (is_some (ready_value p h)) (has_backing (readied_by b i) v) test b.full (carried_of at h) (has_carriers (settled_by_digest (readied_by b i) v) v) test2
-          (value_with_digest b.values.items v) (known at tags h v) v keeps.slot keeps.readied backed keeps.full carries (keeps.values v)
+          said_two b.slot at.slot (not b.readied && has_backing (readied_by b i) v) (not (is_some (ready_value p h)) && test) (is_none b.full && x) (is_none (carried_of at h) && test2)
+          (value_with_digest b.values.items v) (known at tags h v) v keeps.slot
+          (ap (λ (r : Bool). not r && has_backing (readied_by b i) v) keeps.readied ∙ not_open b.full (is_some (ready_value p h)) (has_backing (readied_by b i) v) test done backed)
+          (none_open b.full x test2 carries ∙ ap (λ (o : Option (List ℕ)). is_none o && test2) keeps.full) (keeps.values v)
           ∙ sym (news_is at tags h (Take i)
           ∙ (same_parts at.slot _ None _ None _ r _ w _ []
           (no_start at tags h i) (no_echo at tags h (Take i) (init at.slot.origin)) (ready_gain at tags h (Take i) v test more)
@@ -405,10 +473,10 @@ step_ready b at tags h i keeps kind within none =
           ∙ two_said at.slot r w));
     }
   where
-    said_two : (s s' : Slot) (a a' g g' : Bool) (f f' : Option (List ℕ)) (x x' : Bool) (o o' : Option (List ℕ)) (v : List ℕ) → s ≡ s' → a ≡ a' → g ≡ g' → f ≡ f' → x ≡ x' → o ≡ o'
-        → to_all s Ready (if not a && g then Some v else None) ++ to_all s Want (if (is_none f && x) && is_none o then Some v else None)
-        ≡ to_all s' Ready (if not a' && g' then Some v else None) ++ to_all s' Want (if (is_none f' && x') && is_none o' then Some v else None)
-    said_two s s' a a' g g' f f' x x' o o' v p q r t u w = cc
+    said_two : (s s' : Slot) (r r' w w' : Bool) (o o' : Option (List ℕ)) (v : List ℕ) → s ≡ s' → r ≡ r' → w ≡ w' → o ≡ o'
+        → to_all s Ready (if r then Some v else None) ++ to_all s Want (if w && is_none o then Some v else None)
+        ≡ to_all s' Ready (if r' then Some v else None) ++ to_all s' Want (if w' && is_none o' then Some v else None)
+    said_two s s' r r' w w' o o' v a b c d = cc
 
 -- ---- WANT
 
@@ -450,8 +518,8 @@ step_want b at tags h i keeps kind within none =
         slot = keeps.slot;
         inited = keeps.inited ∙ sym (some_or_none (first h at.slot.origin Init) (told at.slot.origin Init (Take i)) (init at.slot.origin));
         readied = keeps.readied ∙ ap is_some (sym (ready_quiet p h (Take i) echo ready));
-        echoes = keeps.echoes ∙ sym (firsts_same p.n h Echo (Take i) echo);
-        readies = keeps.readies ∙ sym (firsts_same p.n h Ready (Take i) ready);
+        echoes = kept_still b.echoes b.full b.full _ _ keeps.echoes refl (firsts_same p.n h Echo (Take i) echo);
+        readies = kept_still b.readies b.full b.full _ _ keeps.readies refl (firsts_same p.n h Ready (Take i) ready);
         wants = voted b.wants (firsts p.n h Want) i.from v keeps.wants ∙ sym (firsts_vote p.n h Want i (ap (λ k. kind_eq k Want) kind) none within);
         given = λ k lt. keeps.given k lt ∙ sym (some_or_none (first h k Value) (told k Value (Take i)) (value k));
         values = λ e. keeps.values e ∙ sym (same e);
@@ -489,8 +557,8 @@ step_start b at tags h m keeps none =
         slot = keeps.slot;
         inited = keeps.inited ∙ sym (some_or_none (first h at.slot.origin Init) None refl);
         readied = keeps.readied ∙ ap is_some (sym (ready_quiet p h (Start m) (λ j. refl) (λ j. refl)));
-        echoes = keeps.echoes ∙ sym (firsts_same p.n h Echo (Start m) (λ j. refl));
-        readies = keeps.readies ∙ sym (firsts_same p.n h Ready (Start m) (λ j. refl));
+        echoes = kept_still b.echoes b.full b.full _ _ keeps.echoes refl (firsts_same p.n h Echo (Start m) (λ j. refl));
+        readies = kept_still b.readies b.full b.full _ _ keeps.readies refl (firsts_same p.n h Ready (Start m) (λ j. refl));
         wants = keeps.wants ∙ sym (firsts_same p.n h Want (Start m) (λ j. refl));
         given = λ k lt. keeps.given k lt ∙ sym (some_or_none (first h k Value) None refl);
         values = λ e. keeps.values e ∙ sym (same e);

@@ -1,6 +1,6 @@
 -- Where a digest's value stands among those that are known.
 use Rattle.std.proofs.Common.{◌≡◌, ℕ, zero, suc, cond, ◌<◌, ◌+◌, ◌++◌, Bool, true, false, List, [], ◌∷◌, Some, None, sym, ◌∙◌, ap, arith, length, get_or, ap₂, refl}
-use Rattle.std.specs.Prelude.{slice_set, position, nat_lt, not, ◌&&◌, ◌==◌}
+use Rattle.std.specs.Prelude.{slice_set, is_some, position, nat_lt, not, ◌&&◌, ◌==◌}
 use Rattle.std.specs.List.{AllByRecursion, position_or_len, flat_map, range_with_len}
 use Rattle.std.specs.Str.{bytes_eq}
 use Rattle.std.proofs.lemmas.Bool.{cond-true, cond-false, false_from_ne_true, ltb-false}
@@ -14,6 +14,7 @@ use Rattle.ritas_base.specs.declared.item.Msg.{Msg}
 use Rattle.ritas_base.specs.Members.{has_member}
 use Rattle.ritas_base.specs.History.{replicas, is_value}
 use Rattle.reliable_bcast.specs.declared.digest_rb.DigestRb.{DigestRb}
+use Rattle.reliable_bcast.specs.VoteRows.{kept_value}
 use Rattle.reliable_bcast.specs.Laws.DigestNews.{ones, ones_alike}
 use Rattle.reliable_bcast.specs.declared.digest_rb.Known.{Known}
 use Rattle.reliable_bcast.specs.DigestState.{value_with_digest, answer_in, answer_for, answers_to, DigestSettles, Carries, readied_by, settled_by_digest, carried_by_digest, after_ready, ready_message, want_message}
@@ -70,11 +71,12 @@ all_answered b d m asked k base after all members put =
 -- ---- READY
 
 -- what is kept, and what is said, after a READY
-pub ready_step : (old : DigestRb) (i : Item) (voted settled carried : DigestRb) (d : List ℕ) (none said all : List Msg) → d ≡ i.value
-    → voted ≡ record old { readies = slice_set old.readies i.from (Some d) } → DigestSettles voted settled d none said → Carries settled carried d said all → none ≡ []
+pub ready_step : (old : DigestRb) (i : Item) (voted settled carried : DigestRb) (d : List ℕ) (counted : Bool) (none said all : List Msg) → d ≡ i.value → is_some old.full ≡ not counted
+    → voted ≡ record old { readies = slice_set old.readies i.from (Some (kept_value (not counted) d)) } → DigestSettles voted settled d none said → Carries settled carried d said all → none ≡ []
     → (carried ≡ after_ready old i) × (all ≡ ready_message (readied_by old i) i.value ++ want_message (settled_by_digest (readied_by old i) i.value) i.value)
-ready_step old i voted settled carried d none said all same vote settles carries empty =
-    let v : voted ≡ readied_by old i = vote ∙ ap (λ (e : List ℕ). record old { readies = slice_set old.readies i.from (Some e) }) same in
+ready_step old i voted settled carried d counted none said all same counts vote settles carries empty =
+    let v : voted ≡ readied_by old i =
+    vote ∙ ap (λ (e : List ℕ). record old { readies = slice_set old.readies i.from (Some e) }) (ap (λ (b : Bool). kept_value b d) (sym counts) ∙ ap (kept_value (is_some old.full)) same) in
     let s : settled ≡ settled_by_digest (readied_by old i) i.value = settles.state ∙ ap₂ settled_by_digest v same in
     let first : said ≡ ready_message (readied_by old i) i.value = settles.said ∙ (ap (λ (l : List Msg). l ++ ready_message voted d) empty ∙ ap₂ ready_message v same) in (
       carries.state ∙ ap₂ carried_by_digest s same,

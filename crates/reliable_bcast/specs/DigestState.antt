@@ -22,6 +22,7 @@ use Rattle.reliable_bcast.specs.declared.digest_rb.Known.{Known}
 use Rattle.reliable_bcast.specs.declared.digest_rb.DigestRb.{DigestRb}
 use Rattle.reliable_bcast.specs.Bracha.{ready_value, out_by_value as carried_of}
 use Rattle.reliable_bcast.specs.Digests.{known, to_one}
+use Rattle.reliable_bcast.specs.VoteRows.{dropped_if, kept_value}
 use Rattle.ritas_base.specs.Places.{is_awaited}
 
 -- the value with this digest
@@ -29,7 +30,8 @@ abbrev pub value_with_digest : List Known → List ℕ → Option (List ℕ)
 value_with_digest [] d = None
 value_with_digest (k ∷ ks) d = if bytes_eq k.digest d then Some k.value else value_with_digest ks d
 
--- the value keeps what these calls tell at this place
+-- the value keeps what these calls tell at this place: of ECHO and READY no more than who said them, once a digest is
+-- carried
 pub record KeepsDigests (b : DigestRb) (at : Place) (tags : Tags) (h : List Call) : Type 0 where
   pub small : at.numbers.n ≤ 31
   pub params : b.params ≡ at.numbers
@@ -37,8 +39,8 @@ pub record KeepsDigests (b : DigestRb) (at : Place) (tags : Tags) (h : List Call
   pub slot : b.slot ≡ at.slot
   pub inited : b.inited ≡ is_some (first h at.slot.origin kinds.Init)
   pub readied : b.readied ≡ is_some (ready_value at.numbers h)
-  pub echoes : b.echoes ≡ firsts at.numbers.n h kinds.Echo
-  pub readies : b.readies ≡ firsts at.numbers.n h kinds.Ready
+  pub echoes : b.echoes ≡ dropped_if (is_some b.full) (firsts at.numbers.n h kinds.Echo)
+  pub readies : b.readies ≡ dropped_if (is_some b.full) (firsts at.numbers.n h kinds.Ready)
   pub wants : b.wants ≡ firsts at.numbers.n h kinds.Want
   pub given : (k : ℕ) → k < at.numbers.n → has_member b.given k ≡ is_some (first h k kinds.Value)
   pub values : (d : List ℕ) → value_with_digest b.values.items d ≡ known at tags h d
@@ -151,12 +153,21 @@ pub record DigestSettles (old new : DigestRb) (d : List ℕ) (before after : Lis
   pub state : new ≡ settled_by_digest old d
   pub said : after ≡ before ++ ready_message old d
 
+-- the digest is carried now, and none was before
+abbrev pub is_carried_now : DigestRb → List ℕ → Bool
+is_carried_now b d = is_none b.full && has_carriers b d
+
 abbrev pub carried_by_digest : DigestRb → List ℕ → DigestRb
-carried_by_digest b d = record b { full = option_or b.full (if has_carriers b d then Some d else None) }
+carried_by_digest b d =
+    record b {
+      full = option_or b.full (if has_carriers b d then Some d else None);
+      echoes = dropped_if (is_carried_now b d) b.echoes;
+      readies = dropped_if (is_carried_now b d) b.readies;
+    }
 
 -- WANT is said where the digest is carried now, and its value isn't known
 abbrev pub is_digest_wanted : DigestRb → List ℕ → Bool
-is_digest_wanted b d = (is_none b.full && has_carriers b d) && is_none (value_with_digest b.values.items d)
+is_digest_wanted b d = is_carried_now b d && is_none (value_with_digest b.values.items d)
 
 abbrev pub want_message : DigestRb → List ℕ → List Msg
 want_message b d = to_all b.slot kinds.Want (if is_digest_wanted b d then Some d else None)
@@ -166,10 +177,10 @@ pub record Carries (old new : DigestRb) (d : List ℕ) (before after : List Msg)
   pub said : after ≡ before ++ want_message old d
 
 abbrev pub echoed_by : DigestRb → Item → DigestRb
-echoed_by b i = record b { echoes = slice_set b.echoes i.from (Some i.value) }
+echoed_by b i = record b { echoes = slice_set b.echoes i.from (Some (kept_value (is_some b.full) i.value)) }
 
 abbrev pub readied_by : DigestRb → Item → DigestRb
-readied_by b i = record b { readies = slice_set b.readies i.from (Some i.value) }
+readied_by b i = record b { readies = slice_set b.readies i.from (Some (kept_value (is_some b.full) i.value)) }
 
 abbrev pub wanted_by : DigestRb → Item → DigestRb
 wanted_by b i = record b { wants = slice_set b.wants i.from (Some i.value) }

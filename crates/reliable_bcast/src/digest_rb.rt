@@ -27,7 +27,7 @@ pub struct DigestRb {
     pub(crate) slot: Slot,
     inited: bool,
     readied: bool,
-    // The first digest of each replica.
+    // The first digest of each replica. Those of ECHO and READY are dropped once a digest is carried.
     echoes: DigestVotes,
     readies: DigestVotes,
     wants: DigestVotes,
@@ -204,7 +204,8 @@ impl DigestRb {
         Ok(())
     }
 
-    /// Keeps the digest that is carried, once, and says WANT of it where its value isn't known.
+    /// Keeps the digest that is carried, once, and says WANT of it where its value isn't known. ECHO and READY aren't
+    /// counted after that, so their digests are dropped.
     fn carry(&mut self, alloc: Global, digest: &[u8; 32], out: &mut Vec<Msg>) -> Result<(), Mem>
         ensures ok { OnOk result (Carries self.old self.new digest.now out.old.items out.new.items) }
         ensures err { OnErr result (self.new ≡ self.old) }
@@ -217,6 +218,8 @@ impl DigestRb {
                 say_digest(alloc, self.slot, Kind::Want, digest, out)?;
             }
             self.full = Some(*digest);
+            self.echoes.forget(alloc);
+            self.readies.forget(alloc);
         }
         Ok(())
     }
@@ -231,7 +234,8 @@ impl DigestRb {
         if !self.echoes.awaits(item.from) {
             return Ok(Heard::Repeat);
         }
-        self.echoes.vote(alloc, item.from, digest)?;
+        self.echoes
+            .add(alloc, item.from, digest, self.full.is_none())?;
         self.settle(alloc, digest, out)?;
         Ok(Heard::Took)
     }
@@ -246,7 +250,8 @@ impl DigestRb {
         if !self.readies.awaits(item.from) {
             return Ok(Heard::Repeat);
         }
-        self.readies.vote(alloc, item.from, digest)?;
+        self.readies
+            .add(alloc, item.from, digest, self.full.is_none())?;
         let mut said = Vec::new(alloc);
         self.settle(alloc, digest, &mut said)?;
         self.carry(alloc, digest, &mut said)?;
@@ -264,7 +269,7 @@ impl DigestRb {
         if !self.wants.awaits(item.from) {
             return Ok(Heard::Repeat);
         }
-        self.wants.vote(alloc, item.from, digest)?;
+        self.wants.add(alloc, item.from, digest, true)?;
         if item.from == self.me {
             return Ok(Heard::Took);
         }

@@ -59,7 +59,7 @@ echoed_is make None v e = absurd (cc)
 echoed_is make (Some m) v e = (m, refl, same_Some (make m) v e)
 
 -- what is delivered has enough READY voters
-out_voted : (at : Place) (h : List Call) (v : List ℕ) → out_by_value at h ≡ Some v → deliver_of at.numbers ≤ voters at.numbers.n h Ready v
+pub out_voted : (at : Place) (h : List Call) (v : List ℕ) → out_by_value at h ≡ Some v → deliver_of at.numbers ≤ voters at.numbers.n h Ready v
 out_voted at [] v e = absurd (cc)
 out_voted at (c ∷ h) v e =
     elim (option_or_some (out_by_value at h) (some_carried at.numbers (c ∷ h)) v e) [

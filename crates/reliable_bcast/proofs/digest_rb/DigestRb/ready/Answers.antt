@@ -18,14 +18,14 @@ for_want old new i before after (Err x) e awaited out shows = (awaited, out, sho
 pub returns : goal.returns
 returns c =
     let old : DigestRb = c.args.self.now in
-    let step = ready_step old c.args.item.now (record old { readies = c.vote.new.self }) c.settle.new.self c.carry.new.self c.in-Some.digest.now c.new-said.result.items c.settle.new.out.items c.carry.new.out.items
-    c.in-Some.ensures (ap (λ (votes : List (Option (List ℕ))). record old { readies = votes }) c.in_ok-vote.ensures.ok) c.in_ok-settle.ensures.ok c.in_ok-carry.ensures.ok c.new-said.ensures.items in
+    let step = ready_step old c.args.item.now (record old { readies = c.add.new.self }) c.settle.new.self c.carry.new.self c.in-Some.digest.now c.is_none.result c.new-said.result.items c.settle.new.out.items c.carry.new.out.items
+    c.in-Some.ensures c.is_none.ensures (ap (λ (votes : List (Option (List ℕ))). record old { readies = votes }) c.in_ok-add.ensures.ok) c.in_ok-settle.ensures.ok c.in_ok-carry.ensures.ok c.new-said.ensures.items in
     (sym c.awaits.ensures ∙ c.if-not-awaits.false, step.0, c.in_ok-append.ensures.items ∙ ap (λ (l : List Msg). c.args.out.now.items ++ l) step.1)
 
 pub returns-in_err-append : goal.returns-in_err-append
 returns-in_err-append c =
     let old : DigestRb = c.args.self.now in
-    let step = ready_step old c.args.item.now (record old { readies = c.vote.new.self }) c.settle.new.self c.carry.new.self c.in-Some.digest.now c.new-said.result.items c.settle.new.out.items c.carry.new.out.items
-    c.in-Some.ensures (ap (λ (votes : List (Option (List ℕ))). record old { readies = votes }) c.in_ok-vote.ensures.ok) c.in_ok-settle.ensures.ok c.in_ok-carry.ensures.ok c.new-said.ensures.items in
+    let step = ready_step old c.args.item.now (record old { readies = c.add.new.self }) c.settle.new.self c.carry.new.self c.in-Some.digest.now c.is_none.result c.new-said.result.items c.settle.new.out.items c.carry.new.out.items
+    c.in-Some.ensures c.is_none.ensures (ap (λ (votes : List (Option (List ℕ))). record old { readies = votes }) c.in_ok-add.ensures.ok) c.in_ok-settle.ensures.ok c.in_ok-carry.ensures.ok c.new-said.ensures.items in
     for_want old c.carry.new.self c.args.item.now c.args.out.now.items c.append.new.self.items c.from_residual-in_err-append.result c.from_residual-in_err-append.ensures.0
     (sym c.awaits.ensures ∙ c.if-not-awaits.false) c.in_err-append.ensures.items (inr (ap delivered_of step.0))
