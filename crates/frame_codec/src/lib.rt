@@ -17,7 +17,8 @@
 //! A body is the kind of a message (1 byte), its slot (9 bytes) and a payload. All numbers are big-endian. A mask is 4
 //! bytes, and its bit k stands for replica k.
 //!
-//! The kinds go by the session's frame version, which the `Mode` has. A digest is 32 bytes, any ones.
+//! The kinds go by the session's frame version, which the `Mode` has. A digest is 32 bytes, any ones. In version 3 slots of
+//! class 5 are as in version 1, and all others as in version 2.
 //!
 //! | Byte | Kind | Broadcast | Payload in version 1 | In version 2 |
 //! |---|---|---|---|---|

@@ -24,8 +24,9 @@ pub enum Heard {
     Repeat,
 }
 
-/// One replica's part in one broadcast. There are three: reliable broadcast in which ECHO and READY carry the value, for
-/// sessions of frame version 1, the same with its digest, for version 2, and echo broadcast, for both.
+/// One replica's part in one broadcast. There are three: reliable broadcast in which ECHO and READY carry the value, the
+/// same with its digest, and echo broadcast. Sessions of version 1 have the first, those of version 2 the second, and those of
+/// version 3 the first at slots of class 5 and the second at others; each may have the third beside.
 pub trait Broadcast: Drop + Sized {
     /// The value stands for these calls, the newest first, at this place, with a tagger that answers so.
     ghost stands: { Self → Place → Tags → List Call → Type 0 };
@@ -43,7 +44,7 @@ pub trait Broadcast: Drop + Sized {
     ghost shown: { Self → CastShown };
 
     /// Which broadcast it is: 1 is reliable broadcast with values, 2 is echo broadcast, and 3 is reliable broadcast with
-    /// digests, which sessions of version 2 have in place of 1.
+    /// digests.
     const FORM: u8;
 
     /// The part of replica `me` in the broadcast of a slot, before any call. The one error is want of memory.

@@ -19,7 +19,7 @@ pub(crate) struct Known {
     value: Bytes,
 }
 
-/// One replica's part in one reliable broadcast whose ECHO and READY carry the value's digest: that of frame version 2.
+/// One replica's part in one reliable broadcast whose ECHO and READY carry the value's digest.
 #[derive(Drop)]
 pub struct DigestRb {
     params: Params,

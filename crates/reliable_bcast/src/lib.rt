@@ -5,8 +5,8 @@
 //! INIT, each replica says ECHO of the origin's first INIT, says READY once a value has an echo quorum of ECHOs or
 //! f + 1 READYs, and delivers a value once it has 2f + 1 READYs. Of each sender the first value of a kind counts.
 //!
-//! - `Rb` is for frame version 1, in which ECHO and READY carry the value.
-//! - `DigestRb` is for frame version 2, in which they carry its digest. The values that a replica knows are those of the
+//! - `Rb` has the value in ECHO and READY. Version 1 of a session has it, and so has version 3 at the steps of binary consensus.
+//! - `DigestRb` has its digest there. Version 2 has it, and version 3 at other slots. The values that a replica knows are those of the
 //!   origin's first INIT and of each sender's first VALUE. It delivers the first that it knows with the digest that has
 //!   2f + 1 READYs. Where it knows none when that digest has them, it says WANT of it to all. The first WANT of each other
 //!   replica is answered by VALUE, to that replica alone, as soon as a value with its digest is known. WANT and VALUE are

@@ -10,7 +10,7 @@ use layer_api::Heard;
 use ritas_base::{Bytes, Item, Kind, Mem, Msg, Params, Slot};
 use std::alloc::Global;
 
-/// One replica's part in one reliable broadcast whose ECHO and READY carry the value: that of frame version 1.
+/// One replica's part in one reliable broadcast whose ECHO and READY carry the value.
 #[derive(Drop)]
 pub struct Rb {
     params: Params,
