@@ -5,7 +5,7 @@ ghost use Rattle.ordered_rounds.specs.Early.{Notes};
 
 use layer_api::{Outcome, Service};
 use ordered_rounds::{MOST_REPLICAS, advance, put_early, say_command};
-use ritas_base::{Coin, Id, Mem, NUMBER_LIMIT, Params, Say, Slot};
+use ritas_base::{Coin, Id, Mem, Mode, NUMBER_LIMIT, Params, Say, Slot};
 use std::alloc::Global;
 use std::collections::BTreeSet;
 
@@ -70,7 +70,7 @@ impl Service for CmdRoot {
         root == 1 || root == 2
     }
 
-    fn new(alloc: Global, p: &Params, me: u8) -> Result<CmdRoot, Mem> {
+    fn new(alloc: Global, p: &Params, _mode: &Mode, me: u8) -> Result<CmdRoot, Mem> {
         Ok(CmdRoot {
             numbers: *p,
             me,

@@ -2,7 +2,7 @@
 
 use crate::part::line_of;
 use layer_api::{BinaryBox, Outcome, Service, vote_of};
-use ritas_base::{Coin, Id, Mem, Params, Say, Slot};
+use ritas_base::{Coin, Id, Mem, Mode, Params, Say, Slot};
 use std::alloc::Global;
 
 /// Binary consensus as a root service, for root service 3: one instance, over any box.
@@ -35,7 +35,7 @@ impl<B: BinaryBox> Service for BinRoot<B> {
         root == 3
     }
 
-    fn new(alloc: Global, p: &Params, me: u8) -> Result<BinRoot<B>, Mem> {
+    fn new(alloc: Global, p: &Params, _mode: &Mode, me: u8) -> Result<BinRoot<B>, Mem> {
         Ok(BinRoot {
             inner: B::new(alloc, p, me, 0, 0)?,
             given: false,

@@ -2,7 +2,7 @@
 
 use crate::opening::is_slot_of;
 use layer_api::{Decided, MultiBox, Outcome, Service};
-use ritas_base::{Coin, Id, Mem, Params, Say, Slot};
+use ritas_base::{Coin, Id, Mem, Mode, Params, Say, Slot};
 use std::alloc::Global;
 
 /// Multi-valued consensus as a root service, for root service 4: one instance, over any box.
@@ -35,7 +35,7 @@ impl<M: MultiBox> Service for MvcRoot<M> {
         root == 4
     }
 
-    fn new(alloc: Global, p: &Params, me: u8) -> Result<MvcRoot<M>, Mem> {
+    fn new(alloc: Global, p: &Params, _mode: &Mode, me: u8) -> Result<MvcRoot<M>, Mem> {
         Ok(MvcRoot {
             inner: M::new(alloc, p, me, 0, 0)?,
             given: false,

@@ -1,12 +1,14 @@
 -- A round is complete exactly where its decision is known and all that this wants is there.
-use Rattle.std.specs.Prelude.{◌≡◌, ℕ, suc, ◌+◌, ◌<◌, ◌≤◌, nat_lt, Bool, true, false, List, [], ◌∷◌, reverse, Option, Some, None, is_some, if◌then◌else◌, slice_index, Result, Ok, Err, OnErr, refl}
-use Rattle.std.specs.List.{AllByRecursion}
+use Rattle.std.specs.Prelude.{◌≡◌, ℕ, zero, suc, ◌+◌, ◌<◌, ◌≤◌, nat_lt, Bool, true, false, List, [], ◌∷◌, take, reverse, Option, Some, None, is_some, if◌then◌else◌, slice_index, Result, Ok, Err, OnErr, refl}
+use Rattle.std.specs.List.{AllByRecursion, slice_get}
 use Rattle.std.specs.declared.vec.Vec.{Vec}
 use Rattle.std.proofs.Common.{sym, ◌∙◌, ap, ap₂, subst, inl, inr, arith}
 use Rattle.std.proofs.lemmas.Bool.{and_parts, and_from, both_ways, lt-ltb, ltb-true}
 use Rattle.std.proofs.lemmas.Option.{none-some, same_Some}
 use Rattle.ritas_base.specs.declared.id.Id.{Id}
 use Rattle.ritas_base.specs.Numbers.{Numbers}
+use Rattle.ritas_base.specs.Versions.{has_past}
+use Rattle.ritas_base.specs.declared.mode.FrameVersion.{FrameVersion}
 use Rattle.layer_api.specs.Service.{Seat, has_id, IsPart}
 use Rattle.layer_api.specs.Words.{Word}
 use Rattle.layer_api.specs.Multi.{Desk}
@@ -14,13 +16,15 @@ use Rattle.ordered_rounds.specs.Box.{RoundRules, RoundLaws}
 use Rattle.ordered_rounds.specs.BoxCalls.{RoundShown}
 use Rattle.ordered_rounds.specs.Identifiers.{passing_ids, is_without, all_pass, append_ids, IsSorted}
 use Rattle.ordered_rounds.specs.Rounds.{delivered_ids, has_command, round_desk, round_ask, rounds}
+use Rattle.ordered_rounds.specs.Laws.Kept.{kept_near}
 use Rattle.ordered_rounds.specs.Laws.WordsMeet.{delivered_good}
 use Rattle.ordered_rounds.specs.Stepping.{current, log_now, heard_words, words_now}
 use Rattle.ordered_rounds.specs.Ledger.{LedgerStands, IsReady, Between}
-use Rattle.ordered_rounds.specs.Boxes.{Stood}
-use Rattle.ordered_rounds.specs.Waiting.{decision_in, AreWantedIds, Knows}
+use Rattle.ordered_rounds.specs.Boxes.{box_at, Stood, older_then}
+use Rattle.ordered_rounds.specs.Waiting.{decision_in, AreWantedIds, Awaits, Knows}
 use Rattle.ordered_rounds.specs.Turning.{IsMidway, IsWaitKnown, Poised, IsNear}
 use Rattle.ordered_rounds.specs.Laws.Getters.{AllShow}
+use Rattle.ordered_rounds.specs.declared.boxes.Boxes.{Boxes}
 use Rattle.ordered_rounds.specs.declared.ledger.Ledger.{Ledger}
 use Rattle.ordered_rounds.specs.declared.ordered.Ordered.{Ordered}
 use Rattle.ordered_rounds.proofs.Pending.{above_all}
@@ -51,7 +55,56 @@ one_more : (n k : ℕ) → n < rounds → k ≡ n → Prim.Native.Nat.min (k + 1
 unfolding rounds
 one_more n k l e = omega (arith, l, e)
 
+-- ---- the boxes, where the current round is complete
+
+first_same : {V : Type 0} (xs : List V) (k : ℕ) → k < 1 → slice_get (take 1 xs) k ≡ slice_get xs k
+first_same [] zero l = refl
+first_same (x ∷ xs) zero l = refl
+first_same xs (suc k) l = absurd (omega (arith, l))
+
+-- each box is that of a round one further back
+older_at : {V : Type 0} (b c : Boxes V) (version : FrameVersion) (one : V) → b.current ≡ Some one → c.older.items ≡ older_then version b.older.items one
+    → (k : ℕ) → (has_past version ≡ true → k < 2) → box_at c (suc k) ≡ box_at b k
+older_at b c version one is same zero few = ap (λ (xs : List _). slice_get xs 0) same ∙ sym is
+older_at b c version one is same (suc k) few = ap (λ (xs : List _). slice_get xs (suc k)) same ∙ go (has_past version) few
+  where
+    go : (past : Bool) → (past ≡ true → suc k < 2) → slice_get (if past then take 1 b.older.items else b.older.items) k ≡ slice_get b.older.items k
+    go false less = refl
+    go true less = let l = less refl in first_same b.older.items k (omega (arith, l))
+
 module _ {V : Type 0} (stands : V → Desk → List Word → Type 0) (v : RoundRules) (laws : RoundLaws v) (live : V → Bool) (shown : V → RoundShown) (shows : AllShow stands v live shown) where
+  -- where memory for a box was taken, or wasn't there, all is as it was
+  pub regained : (x : Ordered V) (b : Boxes V) (seat : Seat) (w : List Word) (c : Word) → b.current ≡ x.boxes.current → b.older.items ≡ x.boxes.older.items
+      → IsWaitKnown stands v shown x seat w c → IsWaitKnown stands v shown (record x { boxes = b }) seat w c
+  regained x b seat w c now older k = record {
+    mid = record {
+      seated = record {
+        session = k.mid.seated.session;
+        met = k.mid.seated.met;
+        numbers = k.mid.seated.numbers;
+        version = k.mid.seated.version;
+        me = k.mid.seated.me;
+        last = k.mid.seated.last;
+        inputs = k.mid.seated.inputs;
+        live = k.mid.seated.live;
+      };
+      ledger = k.mid.ledger;
+      completed = k.mid.completed;
+      boxes = λ a j e kept small.
+          subst (λ (o : Option V). Stood stands o (round_desk v seat a) (heard_words v seat c w a)) (sym (same j)) (k.mid.boxes a j e kept small);
+      begun = ap is_some now ∙ k.mid.begun;
+      waits = subst (λ (o : Option V). Awaits v x.place.numbers (decision_in shown o) x.waits) (sym now) k.mid.waits;
+    };
+    knows = subst (λ (o : Option V). Knows v x.place.numbers (decision_in shown o) x.waits) (sym now) k.knows;
+  }
+    where
+      same : (j : ℕ) → box_at b j ≡ box_at x.boxes j
+      same zero = now
+      same (suc j) = ap (λ (xs : List V). slice_get xs j) older
+
+  pub lost_room : (x : Ordered V) (seat : Seat) (w : List Word) (c : Word) → IsWaitKnown stands v shown x seat w c → IsNear stands v shown x seat w c
+  lost_room x seat w c k = near_before stands v laws live shown shows x seat w c (mid_before stands v laws live shown shows x seat w c k.mid)
+
   module _ (x : Ordered V) (seat : Seat) (w : List Word) (c : Word) (k : IsWaitKnown stands v shown x seat w c) where
     abbrev m : IsMidway stands v shown x seat w c
     m = k.mid
@@ -68,7 +121,7 @@ module _ {V : Type 0} (stands : V → Desk → List Word → Type 0) (v : RoundR
         let b = begun_some one (nat_lt n rounds) (round_ask v seat n w) (sym (ap is_some is) ∙ m.begun) in
         let small : n < rounds = ltb-true n rounds b.0 in
         let stood : Stood stands (Some one) (round_desk v seat n) (heard_words v seat c w n) =
-        subst (λ (o : Option V). Stood stands o (round_desk v seat n) (heard_words v seat c w n)) is (m.boxes n 0 (omega arith) (omega arith) small) in (
+        subst (λ (o : Option V). Stood stands o (round_desk v seat n) (heard_words v seat c w n)) is (m.boxes n 0 (omega arith) (kept_near seat.mode.version n n (omega arith)) small) in (
           small,
           b.1,
           ap (decision_in shown) is
@@ -160,9 +213,10 @@ module _ {V : Type 0} (stands : V → Desk → List Word → Type 0) (v : RoundR
         pub completed : (y : Ordered V) (xs : List Id) → xs ≡ ids → y.place ≡ x.place → y.inputs ≡ x.inputs → y.live ≡ x.live
             → ((delivered log : List Id) → AllByRecursion (IsReady delivered) xs → IsSorted xs → LedgerStands x.ledger delivered log
             → LedgerStands y.ledger delivered (append_ids (passing_ids (is_without log) xs) log))
-            → y.completed ≡ Prim.Native.Nat.min (x.completed + 1) 4294967295 → y.boxes ≡ record { current = None; last = x.boxes.current; oldest = x.boxes.last } → y.waits ≡ None
+            → y.completed ≡ Prim.Native.Nat.min (x.completed + 1) 4294967295 → y.boxes.current ≡ None
+            → ((one : V) → x.boxes.current ≡ Some one → y.boxes.older.items ≡ older_then x.place.version x.boxes.older.items one) → y.waits ≡ None
             → Poised stands v shown y seat w c
-        completed y xs same place inputs alive appends count boxes waits =
+        completed y xs same place inputs alive appends count none older waits =
             let appends_ids = subst (λ (zs : List Id). (delivered log : List Id) → AllByRecursion (IsReady delivered) zs → IsSorted zs → LedgerStands x.ledger delivered log
             → LedgerStands y.ledger delivered (append_ids (passing_ids (is_without log) zs) log)) same appends in
             poised_next stands v laws live shown shows x y seat w c m completes (record {
@@ -173,7 +227,8 @@ module _ {V : Type 0} (stands : V → Desk → List Word → Type 0) (v : RoundR
                   subst (λ (log : List Id). LedgerStands y.ledger (delivered_ids (c ∷ w)) log) (sym log_is)
                   (appends_ids (delivered_ids (c ∷ w)) (log_now v seat w) are_ready are_sorted m.ledger);
               completed = count ∙ one_more n x.completed completes.small m.completed;
-              boxes = boxes;
+              current = none;
+              older = λ i few. older_at x.boxes y.boxes x.place.version box_is.0 box_is.1 (older box_is.0 box_is.1) i few;
               waits = waits;
             })
 
@@ -190,6 +245,7 @@ module _ {V : Type 0} (stands : V → Desk → List Word → Type 0) (v : RoundR
               session = b.session;
               met = b.met;
               numbers = b.numbers;
+              version = b.version;
               last = b.last;
               inputs = b.inputs;
               completed = b.completed;

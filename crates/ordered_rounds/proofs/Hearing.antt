@@ -1,5 +1,6 @@
 -- A value of atomic broadcast before any word, after an input, and as a command is heard.
 use Rattle.std.specs.Prelude.{◌≡◌, ℕ, zero, suc, ◌<◌, ◌==◌, nat_lt, Bool, true, false, not, ◌&&◌, if◌then◌else◌, List, [], ◌∷◌, ◌++◌, Option, Some, None, is_some, unwrap_or, refl}
+use Rattle.std.specs.List.{slice_get}
 use Rattle.std.specs.declared.vec.Vec.{Vec}
 use Rattle.std.proofs.Common.{sym, ◌∙◌, ap, ap₂, subst, arith}
 use Rattle.std.proofs.lemmas.Bool.{and_right, eq-eqb}
@@ -14,7 +15,7 @@ use Rattle.layer_api.specs.Multi.{Desk}
 use Rattle.ordered_rounds.specs.Box.{last_attempt, RoundRules, RoundLaws}
 use Rattle.ordered_rounds.specs.BoxCalls.{RoundShown}
 use Rattle.ordered_rounds.specs.Rounds.{says_input}
-use Rattle.ordered_rounds.specs.Rounds.{delivered_ids, completes_with, round_desk, log_below, round_ask, round_words, complete_of, log_of, rounds, ordered}
+use Rattle.ordered_rounds.specs.Rounds.{delivered_ids, completes_with, round_desk, log_below, round_ask, round_words, complete_of, log_of, is_kept, rounds, ordered}
 use Rattle.ordered_rounds.specs.Laws.WordsMeet.{round_nothing}
 use Rattle.ordered_rounds.specs.Stepping.{current, log_now, heard_says}
 use Rattle.ordered_rounds.specs.Laws.Stepping.{IsStill, no_ask}
@@ -56,27 +57,26 @@ knows_awaits v p d None k = tt
 knows_awaits v p d (Some ids) k = k
 
 module _ {V : Type 0} (stands : V → Desk → List Word → Type 0) (v : RoundRules) (laws : RoundLaws v) (live : V → Bool) (shown : V → RoundShown) (shows : AllShow stands v live shown) where
-  none_stand : (seat : Seat) (n : ℕ) → BoxesStand stands v seat n (λ a. round_words v seat a []) (record { current = None; last = None; oldest = None })
-  none_stand seat n a zero e few small = refl
-  none_stand seat n a (suc zero) e few small = refl
-  none_stand seat n a (suc (suc zero)) e few small = refl
-  none_stand seat n a (suc (suc (suc k))) e few small = absurd (omega (arith, few))
+  none_stand : (b : Boxes V) (seat : Seat) (n : ℕ) → b.current ≡ None → b.older.items ≡ [] → BoxesStand stands v seat n (λ a. round_words v seat a []) b
+  none_stand b seat n none older a zero e kept small = subst (λ (o : Option V). Stood stands o (round_desk v seat a) []) (sym none) refl
+  none_stand b seat n none older a (suc k) e kept small =
+      subst (λ (o : Option V). Stood stands o (round_desk v seat a) []) (sym (ap (λ (xs : List V). slice_get xs k) older)) refl
 
-  pub begins : (x : Ordered V) (seat : Seat) → IsSession seat.numbers → x.place.numbers ≡ seat.numbers → x.place.me ≡ seat.me → x.place.last ≡ last_attempt v seat.numbers → x.inputs ≡ 0 → x.live ≡ true
-      → LedgerStands x.ledger [] [] → x.completed ≡ 0 → x.boxes ≡ record { current = None; last = None; oldest = None } → x.waits ≡ None → OrderedStands stands v shown x seat []
-  begins x seat session numbers me last inputs alive ledger completed boxes waits = record {
-    seated = record { session = session; met = tt; numbers = numbers; me = me; last = last; inputs = inputs; live = alive };
+  pub begins : (x : Ordered V) (seat : Seat) → IsSession seat.numbers → x.place.numbers ≡ seat.numbers → x.place.version ≡ seat.mode.version → x.place.me ≡ seat.me → x.place.last ≡ last_attempt v seat.numbers → x.inputs ≡ 0 → x.live ≡ true
+      → LedgerStands x.ledger [] [] → x.completed ≡ 0 → x.boxes.current ≡ None → x.boxes.older.items ≡ [] → x.waits ≡ None → OrderedStands stands v shown x seat []
+  begins x seat session numbers version me last inputs alive ledger completed none older waits = record {
+    seated = record { session = session; met = tt; numbers = numbers; version = version; me = me; last = last; inputs = inputs; live = alive };
     ledger = subst (λ (log : List Id). LedgerStands x.ledger [] log) (sym (none_logged v laws seat rounds)) ledger;
     completed = completed ∙ sym (none_complete v laws seat rounds);
-    boxes = subst (λ (b : Boxes V). BoxesStand stands v seat (current v seat []) (λ a. round_words v seat a []) b) (sym boxes) (none_stand seat (current v seat []));
+    boxes = none_stand x.boxes seat (current v seat []) none older;
     begun =
-        ap (λ (b : Boxes V). is_some b.current) boxes
+        ap is_some none
         ∙ sym (and_right (nat_lt (current v seat []) rounds) _ (ap is_some (round_nothing seat (log_below v seat (current v seat [])))));
     waits = known x.waits waits;
   }
     where
       known : {Z : Type 0} (o : Option (Vec Id Z)) → o ≡ None → Knows v x.place.numbers (decision_in shown x.boxes.current) o
-      known None e = ap (λ (b : Boxes V). decision_in shown b.current) boxes
+      known None e = ap (decision_in shown) none
       known (Some ids) e = absurd cc
 
   -- ---- where no round is asked and none becomes complete
@@ -89,7 +89,7 @@ module _ {V : Type 0} (stands : V → Desk → List Word → Type 0) (v : RoundR
         ledger = subst (λ (log : List Id). LedgerStands x.ledger (delivered_ids (c ∷ w)) log) (sym still.log) k.mid.ledger;
         completed = k.mid.completed ∙ sym same;
         boxes = λ a j e few small.
-            subst (λ (u : List Word). Stood stands (box_at x.boxes j) (round_desk v seat a) u) (sym (still.words a)) (k.mid.boxes a j (e ∙ same) few small);
+            subst (λ (u : List Word). Stood stands (box_at x.boxes j) (round_desk v seat a) u) (sym (still.words a)) (k.mid.boxes a j (e ∙ same) (ap (λ (i : ℕ). is_kept seat.mode.version i a) (sym same) ∙ few) small);
         begun =
             k.mid.begun
             ∙ sym (ap₂ (λ (n : ℕ) (o : Option (List ℕ)). nat_lt n rounds && is_some o) same
@@ -109,6 +109,7 @@ module _ {V : Type 0} (stands : V → Desk → List Word → Type 0) (v : RoundR
             session = h.seated.session;
             met = (may, h.seated.met);
             numbers = h.seated.numbers;
+            version = h.seated.version;
             last = h.seated.last;
             me = h.seated.me;
             inputs = let i = h.seated.inputs in omega (arith, i);
@@ -146,6 +147,7 @@ module _ {V : Type 0} (stands : V → Desk → List Word → Type 0) (v : RoundR
         session = h.seated.session;
         met = (may, h.seated.met);
         numbers = h.seated.numbers;
+        version = h.seated.version;
         last = h.seated.last;
         me = h.seated.me;
         inputs = h.seated.inputs;
@@ -168,7 +170,7 @@ module _ {V : Type 0} (stands : V → Desk → List Word → Type 0) (v : RoundR
     lost_command l stood =
         shows_before stands v laws live shown shows (record x { ledger = l }) seat w (Hear s u)
         (record {
-          seated = record { session = h.seated.session; met = h.seated.met; numbers = h.seated.numbers; me = h.seated.me; last = h.seated.last; inputs = h.seated.inputs; live = h.seated.live };
+          seated = record { session = h.seated.session; met = h.seated.met; numbers = h.seated.numbers; version = h.seated.version; me = h.seated.me; last = h.seated.last; inputs = h.seated.inputs; live = h.seated.live };
           ledger = stood;
           completed = h.completed;
           boxes = h.boxes;

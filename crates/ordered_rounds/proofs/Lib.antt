@@ -8,6 +8,7 @@ pub mod Near
 pub mod Turns
 pub mod BackingSteps
 pub mod Backed
+pub mod OlderBoxes
 pub mod Hearing
 pub mod Completing
 pub mod Beginning

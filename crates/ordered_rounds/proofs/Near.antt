@@ -1,7 +1,8 @@
 -- What the getters of a value of atomic broadcast answer after want of memory: each as before the word or as after it.
 use Rattle.std.specs.Prelude.{◌≡◌, ℕ, ◌+◌, ◌-◌, ◌<◌, ◌≤◌, ◌==◌, nat_lt, Bool, true, false, ◌&&◌, if◌then◌else◌, List, [], ◌∷◌, ◌++◌, reverse, Option, Some, None, is_some, refl, ◌⊎◌}
 use Rattle.std.proofs.Common.{sym, ◌∙◌, ap, ap₂, subst, inl, inr, arith}
-use Rattle.std.proofs.lemmas.Bool.{cases_lt, and_left, and_parts, le-ltb}
+use Rattle.std.proofs.lemmas.Bool.{cases_Bool, cases_lt, and_left, and_parts, le-ltb}
+use Rattle.ritas_base.specs.declared.mode.FrameVersion.{FrameVersion}
 use Rattle.ritas_base.specs.declared.slot.Slot.{Slot}
 use Rattle.ritas_base.specs.declared.id.Id.{Id}
 use Rattle.ritas_base.specs.Numbers.{IsSession}
@@ -11,7 +12,8 @@ use Rattle.layer_api.specs.Part.{passed}
 use Rattle.layer_api.specs.Multi.{Desk}
 use Rattle.ordered_rounds.specs.Box.{last_attempt, RoundRules, RoundLaws}
 use Rattle.ordered_rounds.specs.BoxCalls.{RoundShown}
-use Rattle.ordered_rounds.specs.Rounds.{delivered_ids, least_without, is_of_round, round_desk, round_ask, round_words, round_opens, rounds, ordered, last_vector}
+use Rattle.ordered_rounds.specs.Rounds.{delivered_ids, least_without, is_of_round, round_desk, round_ask, round_words, round_opens, is_kept, rounds, ordered, last_vector}
+use Rattle.ordered_rounds.specs.Laws.Kept.{kept_near, far_unkept}
 use Rattle.ordered_rounds.specs.Laws.LogsByRound.{log_grows, complete_small}
 use Rattle.ordered_rounds.specs.Stepping.{current, log_now, heard_words}
 use Rattle.ordered_rounds.specs.Laws.Stepping.{steps, full_is}
@@ -19,7 +21,7 @@ use Rattle.ordered_rounds.specs.Boxes.{box_at, opens_in, spent_in, Stood, last_i
 use Rattle.ordered_rounds.specs.OrderedGetters.{opens_round, base_in}
 use Rattle.ordered_rounds.specs.OrderedStands.{has_begun, OrderedStands}
 use Rattle.ordered_rounds.specs.Turning.{IsMidway, IsNow, Poised, IsNear}
-use Rattle.ordered_rounds.specs.Laws.Getters.{slot_told, ruled, none_beyond, same_inside, ruled_nothing, ruled_past, told_nothing, told_ahead, past_box, full_not_spent, base_is, AllShow, stood_opens, stood_spent, nothing_ahead, shows_rules, stood_vector}
+use Rattle.ordered_rounds.specs.Laws.Getters.{slot_told, ruled, none_beyond, same_inside, ruled_nothing, ruled_past, told_nothing, told_past, told_ahead, full_not_spent, base_is, AllShow, stood_opens, stood_spent, nothing_ahead, shows_rules, stood_vector}
 use Rattle.ordered_rounds.specs.declared.boxes.Boxes.{Boxes}
 use Rattle.ordered_rounds.specs.declared.ordered.Ordered.{Ordered}
 use Rattle.ordered_rounds.proofs.Stepped.{stays_or_goes, words_heard, not_spent_before, not_spent_after, only_current}
@@ -62,13 +64,14 @@ module _ {V : Type 0} (stands : V → Desk → List Word → Type 0) (v : RoundR
 
   abbrev pub NearBoxes : Seat → List Word → Word → Boxes V → Type 0
   NearBoxes seat w c b =
-      (a k : ℕ) → a + k ≡ current v seat w → k < 3 → a < rounds → OneNear (box_at b k) (round_desk v seat a) (round_words v seat a w) (heard_words v seat c w a)
+      (a k : ℕ) → a + k ≡ current v seat w → is_kept seat.mode.version (current v seat w) a ≡ true → a < rounds → OneNear (box_at b k) (round_desk v seat a) (round_words v seat a w) (heard_words v seat c w a)
 
   -- no round became complete yet: what the value shows
   pub record Before (x : Ordered V) (seat : Seat) (w : List Word) (c : Word) : Type 0 where
     pub session : IsSession seat.numbers
     pub met : AreProper (ordered v) seat (c ∷ w)
     pub numbers : x.place.numbers ≡ seat.numbers
+    pub version : x.place.version ≡ seat.mode.version
     pub last : x.place.last ≡ last_attempt v seat.numbers
     pub inputs : (x.inputs ≡ asked w) ⊎ (x.inputs ≡ asked (c ∷ w))
     pub completed : x.completed ≡ current v seat w
@@ -102,48 +105,54 @@ module _ {V : Type 0} (stands : V → Desk → List Word → Type 0) (v : RoundR
         ]
 
     -- what a box in the window takes
-    box_near : (s : Slot) (t : Bool) → s.a < rounds → s.a ≤ n → n ≤ s.a + 2 → (s.a ≡ n → is_some (round_ask v seat n w) ≡ true)
+    box_near : (s : Slot) (t : Bool) → s.a < rounds → s.a ≤ n → is_kept seat.mode.version n s.a ≡ true → (s.a ≡ n → is_some (round_ask v seat n w) ≡ true)
         → (t ≡ old_opens s) ⊎ (t ≡ v.opens (round_desk v seat s.a) (heard_words v seat c w s.a) s)
-        → (slot_told (last_attempt v seat.numbers) n s t ≡ ruled (last_attempt v seat.numbers) n s (old_opens s)) ⊎ (slot_told (last_attempt v seat.numbers) n s t ≡ ruled (last_attempt v seat.numbers) later s (new_opens s))
-    box_near s t small begun recent asks (inl e) = inl (same_inside (last_attempt v seat.numbers) n n s _ _ small begun recent e)
-    box_near s t small begun recent asks (inr e) =
+        → (slot_told seat.mode.version (last_attempt v seat.numbers) n s t ≡ ruled seat.mode.version (last_attempt v seat.numbers) n s (old_opens s))
+        ⊎ (slot_told seat.mode.version (last_attempt v seat.numbers) n s t ≡ ruled seat.mode.version (last_attempt v seat.numbers) later s (new_opens s))
+    box_near s t small begun kept asks (inl e) = inl (same_inside seat.mode.version (last_attempt v seat.numbers) n n s _ _ small begun kept kept e)
+    box_near s t small begun kept asks (inr e) =
         let f = (last_attempt v seat.numbers) in
         let is : t ≡ new_opens s = e ∙ ap (λ (u : List Word). v.opens (round_desk v seat s.a) u s) (sym (words_later s.a begun small asks)) in
         elim (stays_or_goes v laws seat session c w met) [
-          | inl stays ↦ let same = stays.remains.same in inr (same_inside f n later s _ _ small begun (omega (arith, same, recent)) is)
-          | inr goes ↦ elim (cases_lt n (s.a + 2)) [
-            | inl inside ↦ let next = goes.advances.next in inr (same_inside f n later s _ _ small begun (omega (arith, next, inside)) is)
+          | inl stays ↦
+              inr (same_inside seat.mode.version f n later s _ _ small begun kept
+              (ap (λ (i : ℕ). is_kept seat.mode.version i s.a) stays.remains.same ∙ kept) is)
+          | inr goes ↦ elim (cases_Bool (is_kept seat.mode.version later s.a)) [
+            | inl inside ↦ inr (same_inside seat.mode.version f n later s _ _ small begun kept inside is)
             | inr last ↦
-                let other = only_current v laws seat session c w met goes s.a (λ same. omega (arith, same, last)) in
+                let next = goes.advances.next in
+                let far = far_unkept seat.mode.version later s.a last in
+                let other = only_current v laws seat session c w met goes s.a (λ same. omega (arith, same, far, next)) in
                 let unheard : heard_words v seat c w s.a ≡ round_words v seat s.a w = ap (λ (ds : List Word). ds ++ round_words v seat s.a w) other in
-                inl (same_inside f n n s _ _ small begun recent (e ∙ ap (λ (u : List Word). v.opens (round_desk v seat s.a) u s) unheard))
+                inl (same_inside seat.mode.version f n n s _ _ small begun kept kept (e ∙ ap (λ (u : List Word). v.opens (round_desk v seat s.a) u s) unheard))
           ]
         ]
 
-    one_near : (s : Slot) (o : Option V) → s.a < rounds → s.a ≤ n → n ≤ s.a + 2 → ((x : V) → o ≡ Some x → s.a ≡ n → is_some (round_ask v seat n w) ≡ true)
+    one_near : (s : Slot) (o : Option V) → s.a < rounds → s.a ≤ n → is_kept seat.mode.version n s.a ≡ true → ((x : V) → o ≡ Some x → s.a ≡ n → is_some (round_ask v seat n w) ≡ true)
         → OneNear o (round_desk v seat s.a) (round_words v seat s.a w) (heard_words v seat c w s.a)
-        → (slot_told (last_attempt v seat.numbers) n s (opens_in shown o s) ≡ ruled (last_attempt v seat.numbers) n s (old_opens s))
-        ⊎ (slot_told (last_attempt v seat.numbers) n s (opens_in shown o s) ≡ ruled (last_attempt v seat.numbers) later s (new_opens s))
-    one_near s None small begun recent asks none = inl (same_inside (last_attempt v seat.numbers) n n s _ _ small begun recent (stood_opens stands v laws live shown shows None (round_desk v seat s.a) (round_words v seat s.a w) s none))
-    one_near s (Some one) small begun recent asks near = box_near s ((shown one).opens s) small begun recent (asks one refl) (near.opens s)
+        → (slot_told seat.mode.version (last_attempt v seat.numbers) n s (opens_in shown o s) ≡ ruled seat.mode.version (last_attempt v seat.numbers) n s (old_opens s))
+        ⊎ (slot_told seat.mode.version (last_attempt v seat.numbers) n s (opens_in shown o s) ≡ ruled seat.mode.version (last_attempt v seat.numbers) later s (new_opens s))
+    one_near s None small begun kept asks none = inl (same_inside seat.mode.version (last_attempt v seat.numbers) n n s _ _ small begun kept kept (stood_opens stands v laws live shown shows None (round_desk v seat s.a) (round_words v seat s.a w) s none))
+    one_near s (Some one) small begun kept asks near = box_near s ((shown one).opens s) small begun kept (asks one refl) (near.opens s)
 
     opens_near : (b : Boxes V) → NearBoxes seat w c b → is_some b.current ≡ has_begun v seat w → (s : Slot)
-        → (opens_round shown (last_attempt v seat.numbers) n b s ≡ round_opens v seat w s) ⊎ (opens_round shown (last_attempt v seat.numbers) n b s ≡ round_opens v seat (c ∷ w) s)
+        → (opens_round shown seat.mode.version (last_attempt v seat.numbers) n b s ≡ round_opens v seat w s)
+        ⊎ (opens_round shown seat.mode.version (last_attempt v seat.numbers) n b s ≡ round_opens v seat (c ∷ w) s)
     opens_near b boxes begun s =
         let f = (last_attempt v seat.numbers) in
         elim (cases_lt s.a rounds) [
-          | inr far ↦ inl (none_beyond f n n s _ _ far)
+          | inr far ↦ inl (none_beyond seat.mode.version f n n s _ _ far)
           | inl small ↦ elim (cases_lt n s.a) [
             | inl ahead ↦
-                inl (told_ahead f n s _ ahead ∙ sym (ruled_nothing f n s _ (nothing_ahead stands v laws live shown shows seat session w s met.1 ahead)))
-            | inr there ↦ elim (cases_lt (s.a + 2) n) [
-              | inl past ↦
-                  inl (told_nothing f n s _ (ap (λ (o : Option V). opens_in shown o s) (past_box b (n - s.a) (omega (arith, past)))) ∙ sym (ruled_past f n s _ past))
-              | inr recent ↦
-                  one_near s (box_at b (n - s.a)) small there recent
+                inl (told_ahead seat.mode.version f n s _ ahead
+                ∙ sym (ruled_nothing seat.mode.version f n s _ (nothing_ahead stands v laws live shown shows seat session w s met.1 ahead)))
+            | inr there ↦ elim (cases_Bool (is_kept seat.mode.version n s.a)) [
+              | inr past ↦ inl (told_past seat.mode.version f n s _ past ∙ sym (ruled_past seat.mode.version f n s _ past))
+              | inl kept ↦
+                  one_near s (box_at b (n - s.a)) small there kept
                   (λ x q same. (some_there b.current (nat_lt n rounds) (is_some (round_ask v seat n w)) begun x
                   (sym (ap (box_at b) (let e : n - s.a ≡ 0 = omega (arith, same) in e)) ∙ q)).1)
-                  (boxes s.a (n - s.a) (omega (arith, there)) (omega (arith, there, recent)) small)
+                  (boxes s.a (n - s.a) (omega (arith, there)) kept small)
             ]
           ]
         ]
@@ -171,7 +180,7 @@ module _ {V : Type 0} (stands : V → Desk → List Word → Type 0) (v : RoundR
         ⊎ (spent_in shown b.current ≡ v.spent (round_desk v seat later) (round_words v seat later (c ∷ w)))
     spent_near b boxes begun =
         elim (cases_lt n rounds) [
-          | inl small ↦ now_near b.current small begun (boxes n 0 (omega arith) (omega arith) small)
+          | inl small ↦ now_near b.current small begun (boxes n 0 (omega arith) (kept_near seat.mode.version n n (omega arith)) small)
           | inr full ↦
               inl (ap (spent_in shown) (none_there b.current (begun ∙ and_left (nat_lt n rounds) _ (le-ltb n rounds full)))
               ∙ sym (subst (λ (a : ℕ). v.spent (round_desk v seat a) (round_words v seat a w) ≡ false) (sym (full_is v laws seat session w full))
@@ -196,8 +205,10 @@ module _ {V : Type 0} (stands : V → Desk → List Word → Type 0) (v : RoundR
     vector_in_window : (b : Boxes V) → NearBoxes seat w c b → is_some b.current ≡ has_begun v seat w
         → (last_in shown n b ≡ last_vector v seat w) ⊎ (last_in shown n b ≡ last_vector v seat (c ∷ w))
     vector_in_window b boxes begun =
-        last_near v laws seat session stands live shown shows c w met b begun (λ small. vector_now b.current (boxes n 0 (omega arith) (omega arith) small))
-        (λ k same. let few = complete_small v seat rounds w in vector_near k b.last (boxes k 1 (omega (arith, same)) (omega arith) (omega (arith, same, few))))
+        last_near v laws seat session stands live shown shows c w met b begun (λ small. vector_now b.current (boxes n 0 (omega arith) (kept_near seat.mode.version n n (omega arith)) small))
+        (λ k same.
+        let few = complete_small v seat rounds w in
+        vector_near k (box_at b 1) (boxes k 1 (omega (arith, same)) (kept_near seat.mode.version n k (omega (arith, same))) (omega (arith, same, few))))
 
   -- ---- all is near
 
@@ -205,7 +216,8 @@ module _ {V : Type 0} (stands : V → Desk → List Word → Type 0) (v : RoundR
   near_before x seat w c b = record {
     opens = λ s.
         subst (λ (o : Bool). ((if s.class == 1 then true else o) ≡ (ordered v).opens seat w s) ⊎ ((if s.class == 1 then true else o) ≡ (ordered v).opens seat (c ∷ w) s))
-        (sym (ap₂ (λ (f k : ℕ). opens_round shown f k x.boxes s) b.last b.completed))
+        (sym (ap (λ (e : FrameVersion). opens_round shown e x.place.last x.completed x.boxes s) b.version
+        ∙ ap₂ (λ (f k : ℕ). opens_round shown seat.mode.version f k x.boxes s) b.last b.completed))
         (near_if (s.class == 1) true _ _ _ (opens_near seat b.session c w b.met x.boxes b.boxes b.begun s));
     completed = inl b.completed;
     base = λ o l. let most = b.session.most in inl (b.bases o (omega (arith, l, most)));
@@ -232,6 +244,7 @@ module _ {V : Type 0} (stands : V → Desk → List Word → Type 0) (v : RoundR
     session = m.seated.session;
     met = m.seated.met;
     numbers = m.seated.numbers;
+    version = m.seated.version;
     last = m.seated.last;
     inputs = inr m.seated.inputs;
     completed = m.completed;
@@ -277,42 +290,42 @@ module _ {V : Type 0} (stands : V → Desk → List Word → Type 0) (v : RoundR
 
   module _ (x : Ordered V) (seat : Seat) (w : List Word) (c : Word) (p : Poised stands v shown x seat w c) where
     here_opens : (s : Slot) (o : Option V) → s.a ≡ current v seat (c ∷ w) → s.a < rounds → IsNow stands v shown o seat w c
-        → (slot_told (last_attempt v seat.numbers) (current v seat (c ∷ w)) s (opens_in shown o s) ≡ ruled (last_attempt v seat.numbers) (current v seat w) s (v.opens (round_desk v seat s.a) (round_words v seat s.a w) s))
-        ⊎ (slot_told (last_attempt v seat.numbers) (current v seat (c ∷ w)) s (opens_in shown o s) ≡ ruled (last_attempt v seat.numbers) (current v seat (c ∷ w)) s (v.opens (round_desk v seat s.a) (round_words v seat s.a (c ∷ w)) s))
+        → (slot_told seat.mode.version (last_attempt v seat.numbers) (current v seat (c ∷ w)) s (opens_in shown o s) ≡ ruled seat.mode.version (last_attempt v seat.numbers) (current v seat w) s (v.opens (round_desk v seat s.a) (round_words v seat s.a w) s))
+        ⊎ (slot_told seat.mode.version (last_attempt v seat.numbers) (current v seat (c ∷ w)) s (opens_in shown o s) ≡ ruled seat.mode.version (last_attempt v seat.numbers) (current v seat (c ∷ w)) s (v.opens (round_desk v seat s.a) (round_words v seat s.a (c ∷ w)) s))
     here_opens s None same small due =
         let none : round_words v seat s.a w ≡ [] =
         ap (λ (a : ℕ). round_words v seat a w) same ∙ due.unbegun (subst (λ (a : ℕ). a < rounds) same small) in
-        inl (told_nothing (last_attempt v seat.numbers) (current v seat (c ∷ w)) s false refl
-        ∙ sym (ruled_nothing (last_attempt v seat.numbers) (current v seat w) s _ (ap (λ (u : List Word). v.opens (round_desk v seat s.a) u s) none ∙ laws.opens_first (round_desk v seat s.a) s)))
+        inl (told_nothing seat.mode.version (last_attempt v seat.numbers) (current v seat (c ∷ w)) s false refl
+        ∙ sym (ruled_nothing seat.mode.version (last_attempt v seat.numbers) (current v seat w) s _ (ap (λ (u : List Word). v.opens (round_desk v seat s.a) u s) none ∙ laws.opens_first (round_desk v seat s.a) s)))
     here_opens s (Some one) same small going =
         let stood : stands one (round_desk v seat s.a) (round_words v seat s.a (c ∷ w)) =
         subst (λ (a : ℕ). stands one (round_desk v seat a) (round_words v seat a (c ∷ w))) (sym same) going.stood in
-        inr (same_inside (last_attempt v seat.numbers) (current v seat (c ∷ w)) (current v seat (c ∷ w)) s _ _ small (omega (arith, same)) (omega (arith, same))
+        let kept = kept_near seat.mode.version (current v seat (c ∷ w)) s.a (omega (arith, same)) in
+        inr (same_inside seat.mode.version (last_attempt v seat.numbers) (current v seat (c ∷ w)) (current v seat (c ∷ w)) s _ _ small (omega (arith, same)) kept kept
         ((shows one (round_desk v seat s.a) (round_words v seat s.a (c ∷ w)) stood).1.opens s))
 
     poised_opens : (s : Slot)
-        → (opens_round shown (last_attempt v seat.numbers) (current v seat (c ∷ w)) x.boxes s ≡ round_opens v seat w s)
-        ⊎ (opens_round shown (last_attempt v seat.numbers) (current v seat (c ∷ w)) x.boxes s ≡ round_opens v seat (c ∷ w) s)
+        → (opens_round shown seat.mode.version (last_attempt v seat.numbers) (current v seat (c ∷ w)) x.boxes s ≡ round_opens v seat w s)
+        ⊎ (opens_round shown seat.mode.version (last_attempt v seat.numbers) (current v seat (c ∷ w)) x.boxes s ≡ round_opens v seat (c ∷ w) s)
     poised_opens s =
         let f = (last_attempt v seat.numbers) in
         let m : ℕ = current v seat (c ∷ w) in
         elim (cases_lt s.a rounds) [
-          | inr far ↦ inr (none_beyond f m m s _ _ far)
+          | inr far ↦ inr (none_beyond seat.mode.version f m m s _ _ far)
           | inl small ↦ elim (cases_lt m s.a) [
             | inl ahead ↦
-                inr (told_ahead f m s _ ahead ∙ sym (ruled_nothing f m s _ (nothing_ahead stands v laws live shown shows seat p.seated.session (c ∷ w) s p.seated.met ahead)))
-            | inr there ↦ elim (cases_lt (s.a + 2) m) [
-              | inl past ↦
-                  inr (told_nothing f m s _ (ap (λ (o : Option V). opens_in shown o s) (past_box x.boxes (m - s.a) (omega (arith, past)))) ∙ sym (ruled_past f m s _ past))
-              | inr recent ↦ elim (cases_lt s.a m) [
+                inr (told_ahead seat.mode.version f m s _ ahead ∙ sym (ruled_nothing seat.mode.version f m s _ (nothing_ahead stands v laws live shown shows seat p.seated.session (c ∷ w) s p.seated.met ahead)))
+            | inr there ↦ elim (cases_Bool (is_kept seat.mode.version m s.a)) [
+              | inr past ↦ inr (told_past seat.mode.version f m s _ past ∙ sym (ruled_past seat.mode.version f m s _ past))
+              | inl kept ↦ elim (cases_lt s.a m) [
                 | inl older ↦
-                    inr (same_inside f m m s _ _ small there recent
+                    inr (same_inside seat.mode.version f m m s _ _ small there kept kept
                     (stood_opens stands v laws live shown shows (box_at x.boxes (m - s.a)) (round_desk v seat s.a) (round_words v seat s.a (c ∷ w)) s
-                    (p.older s.a (m - s.a) (omega (arith, there)) (omega (arith, older)) (omega (arith, there, recent)) small)))
+                    (p.older s.a (m - s.a) (omega (arith, there)) (omega (arith, older)) kept small)))
                 | inr now ↦
                     let same : s.a ≡ m = omega (arith, there, now) in
                     let first : m - s.a ≡ 0 = omega (arith, same) in
-                    subst (λ (k : ℕ). (slot_told f m s (opens_in shown (box_at x.boxes k) s) ≡ round_opens v seat w s) ⊎ (slot_told f m s (opens_in shown (box_at x.boxes k) s) ≡ round_opens v seat (c ∷ w) s))
+                    subst (λ (k : ℕ). (slot_told seat.mode.version f m s (opens_in shown (box_at x.boxes k) s) ≡ round_opens v seat w s) ⊎ (slot_told seat.mode.version f m s (opens_in shown (box_at x.boxes k) s) ≡ round_opens v seat (c ∷ w) s))
                     (sym first) (here_opens s x.boxes.current same small p.here)
               ]
             ]
@@ -329,7 +342,8 @@ module _ {V : Type 0} (stands : V → Desk → List Word → Type 0) (v : RoundR
     poised_near = record {
       opens = λ s.
           subst (λ (o : Bool). ((if s.class == 1 then true else o) ≡ (ordered v).opens seat w s) ⊎ ((if s.class == 1 then true else o) ≡ (ordered v).opens seat (c ∷ w) s))
-          (sym (ap₂ (λ (f k : ℕ). opens_round shown f k x.boxes s) p.seated.last p.completed))
+          (sym (ap (λ (e : FrameVersion). opens_round shown e x.place.last x.completed x.boxes s) p.seated.version
+          ∙ ap₂ (λ (f k : ℕ). opens_round shown seat.mode.version f k x.boxes s) p.seated.last p.completed))
           (near_if (s.class == 1) true _ _ _ (poised_opens s));
       completed = inr p.completed;
       base = λ o l. let most = p.seated.session.most in inr (base_is x.ledger (delivered_ids (c ∷ w)) (log_now v seat (c ∷ w)) o p.ledger (omega (arith, l, most)));

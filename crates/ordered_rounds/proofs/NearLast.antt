@@ -12,12 +12,13 @@ use Rattle.layer_api.specs.Multi.{Desk}
 use Rattle.ordered_rounds.specs.Box.{RoundRules, RoundLaws}
 use Rattle.ordered_rounds.specs.BoxCalls.{RoundShown}
 use Rattle.ordered_rounds.specs.Rounds.{round_desk, round_ask, round_words, round_decides, log_below, vector_of_round, last_complete, last_vector, rounds, ordered}
+use Rattle.ordered_rounds.specs.Laws.Kept.{kept_near}
 use Rattle.ordered_rounds.specs.Laws.LogsByRound.{log_complete, complete_small}
 use Rattle.ordered_rounds.specs.Laws.RoundVectors.{completes_by}
 use Rattle.ordered_rounds.specs.Laws.RoundsStay.{vector_stay}
 use Rattle.ordered_rounds.specs.Stepping.{current, log_now, heard_words, next_ask}
 use Rattle.ordered_rounds.specs.Laws.Stepping.{steps, full_is}
-use Rattle.ordered_rounds.specs.Boxes.{vector_by_box, last_in, OldStand}
+use Rattle.ordered_rounds.specs.Boxes.{box_at, vector_by_box, last_in, OldStand}
 use Rattle.ordered_rounds.specs.OrderedStands.{has_begun}
 use Rattle.ordered_rounds.specs.Turning.{IsNow}
 use Rattle.ordered_rounds.specs.Laws.Getters.{AllShow, full_undecided, stood_vector}
@@ -71,11 +72,11 @@ module _ (v : RoundRules) (laws : RoundLaws v) (seat : Seat) (session : IsSessio
         ⊎ (vector_by_box shown o ≡ v.vector (round_desk v seat a) (heard_words v seat c w a))
 
     -- that of the round before the current one is still what it was
-    before_near : (b : Boxes V) (a : ℕ) → a ≡ n → ((k : ℕ) → suc k ≡ a → IsNearVector k b.last)
-        → (if nat_lt 0 a then vector_by_box shown b.last else None) ≡ last_complete v seat a w
+    before_near : (b : Boxes V) (a : ℕ) → a ≡ n → ((k : ℕ) → suc k ≡ a → IsNearVector k (box_at b 1))
+        → (if nat_lt 0 a then vector_by_box shown (box_at b 1) else None) ≡ last_complete v seat a w
     before_near b zero same near = refl
     before_near b (suc a) same near =
-        ap (λ (t : Bool). if t then vector_by_box shown b.last else None) (lt-ltb 0 (suc a) (omega arith))
+        ap (λ (t : Bool). if t then vector_by_box shown (box_at b 1) else None) (lt-ltb 0 (suc a) (omega arith))
         ∙ elim (near a refl) [
           | inl e ↦ e
           | inr e ↦
@@ -99,7 +100,7 @@ module _ (v : RoundRules) (laws : RoundLaws v) (seat : Seat) (session : IsSessio
     -- where the box of the current round shows what it decides with the word
     heard_near : (b : Boxes V) → is_some (round_ask v seat n w) ≡ true
         → vector_by_box shown b.current ≡ v.vector (round_desk v seat n) (heard_words v seat c w n)
-        → (if nat_lt 0 n then vector_by_box shown b.last else None) ≡ last_complete v seat n w → last_in shown n b ≡ last_vector v seat (c ∷ w)
+        → (if nat_lt 0 n then vector_by_box shown (box_at b 1) else None) ≡ last_complete v seat n w → last_in shown n b ≡ last_vector v seat (c ∷ w)
     heard_near b asked e older =
         let is : vector_by_box shown b.current ≡ vector_of_round v seat n (c ∷ w) =
         e ∙ ap (v.vector (round_desk v seat n)) (sym (words_heard v laws seat session c w met n asked)) in
@@ -129,7 +130,7 @@ module _ (v : RoundRules) (laws : RoundLaws v) (seat : Seat) (session : IsSessio
     NearNow None = vector_by_box shown None ≡ vector_of_round v seat n w
     NearNow (Some one) = IsNearVector n (Some one)
 
-    pub last_near : (b : Boxes V) → is_some b.current ≡ has_begun v seat w → (n < rounds → NearNow b.current) → ((k : ℕ) → suc k ≡ n → IsNearVector k b.last)
+    pub last_near : (b : Boxes V) → is_some b.current ≡ has_begun v seat w → (n < rounds → NearNow b.current) → ((k : ℕ) → suc k ≡ n → IsNearVector k (box_at b 1))
         → (last_in shown n b ≡ last_vector v seat w) ⊎ (last_in shown n b ≡ last_vector v seat (c ∷ w))
     last_near b begun near older =
         elim (cases_lt n rounds) [
@@ -137,7 +138,7 @@ module _ (v : RoundRules) (laws : RoundLaws v) (seat : Seat) (session : IsSessio
           | inr full ↦ inl (ap₂ (λ (x u : Option LastVector). option_or x u) (none_now full) o)
         ]
       where
-        o : (if nat_lt 0 n then vector_by_box shown b.last else None) ≡ last_complete v seat n w
+        o : (if nat_lt 0 n then vector_by_box shown (box_at b 1) else None) ≡ last_complete v seat n w
         o = before_near b n refl older
 
         none_there : (x : Option V) → is_some x ≡ false → vector_by_box shown x ≡ None
@@ -177,10 +178,10 @@ module _ (v : RoundRules) (laws : RoundLaws v) (seat : Seat) (session : IsSessio
         now (Some one) going =
             stood_vector stands v laws live shown shows (Some one) (round_desk v seat m) (round_words v seat m (c ∷ w)) going.stood
 
-        before : (a : ℕ) → a ≡ m → (if nat_lt 0 a then vector_by_box shown b.last else None) ≡ last_complete v seat a (c ∷ w)
+        before : (a : ℕ) → a ≡ m → (if nat_lt 0 a then vector_by_box shown (box_at b 1) else None) ≡ last_complete v seat a (c ∷ w)
         before zero same = refl
         before (suc a) same =
             let few = complete_small v seat rounds (c ∷ w) in
-            ap (λ (t : Bool). if t then vector_by_box shown b.last else None) (lt-ltb 0 (suc a) (omega arith))
-            ∙ stood_vector stands v laws live shown shows b.last (round_desk v seat a) (round_words v seat a (c ∷ w))
-            (older a 1 (omega (arith, same)) (omega arith) (omega arith) (omega (arith, same, few)))
+            ap (λ (t : Bool). if t then vector_by_box shown (box_at b 1) else None) (lt-ltb 0 (suc a) (omega arith))
+            ∙ stood_vector stands v laws live shown shows (box_at b 1) (round_desk v seat a) (round_words v seat a (c ∷ w))
+            (older a 1 (omega (arith, same)) (omega arith) (kept_near seat.mode.version m a (omega (arith, same))) (omega (arith, same, few)))

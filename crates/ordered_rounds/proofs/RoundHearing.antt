@@ -1,7 +1,7 @@
 -- What a slot of a round delivered is heard by the round's box, and by no other.
-use Rattle.std.specs.Prelude.{◌≡◌, ℕ, zero, suc, ◌+◌, ◌-◌, ◌<◌, ◌≤◌, ◌==◌, Bool, true, false, not, if◌then◌else◌, List, [], ◌∷◌, ◌++◌, Option, Some, None, is_some, Ok, Err, refl}
+use Rattle.std.specs.Prelude.{◌≡◌, ℕ, ◌+◌, ◌-◌, ◌<◌, ◌≤◌, ◌==◌, Bool, true, false, not, if◌then◌else◌, List, [], ◌∷◌, ◌++◌, Option, Some, None, is_some, Ok, Err, refl}
 use Rattle.std.specs.declared.vec.Vec.{Vec}
-use Rattle.std.proofs.Common.{sym, ◌∙◌, ap, ap₂, subst, inl, inr, arith}
+use Rattle.std.proofs.Common.{sym, ◌∙◌, ap, subst, inl, inr, arith}
 use Rattle.std.proofs.lemmas.Bool.{cases_eq, and_right, and_from, eq-eqb, ne_eqb, both_ways}
 use Rattle.ritas_base.specs.declared.bytes.Mem.{Mem}
 use Rattle.ritas_base.specs.declared.id.Id.{Id}
@@ -15,14 +15,14 @@ use Rattle.layer_api.specs.Part.{passed}
 use Rattle.layer_api.specs.Multi.{Desk}
 use Rattle.ordered_rounds.specs.Box.{RoundRules, RoundLaws, MayRound}
 use Rattle.ordered_rounds.specs.BoxCalls.{RoundShown, RoundHears}
-use Rattle.ordered_rounds.specs.Rounds.{delivered_ids, is_of_round, round_desk, round_words, rounds, ordered}
+use Rattle.ordered_rounds.specs.Rounds.{delivered_ids, is_of_round, round_desk, round_words, is_kept, rounds, ordered}
 use Rattle.ordered_rounds.specs.Laws.Roots.{atomic_root}
 use Rattle.ordered_rounds.specs.Laws.WordsMeet.{round_met}
 use Rattle.ordered_rounds.specs.Laws.LogsByRound.{log_grows}
 use Rattle.ordered_rounds.specs.Stepping.{current, log_now, heard_says, heard_words}
 use Rattle.ordered_rounds.specs.Laws.Stepping.{comes_to, no_step}
 use Rattle.ordered_rounds.specs.Ledger.{LedgerStands}
-use Rattle.ordered_rounds.specs.Boxes.{box_at, with_box, Stood, BoxesStand, HearsBox}
+use Rattle.ordered_rounds.specs.Boxes.{box_at, IsExchanged, Stood, BoxesStand, HearsBox}
 use Rattle.ordered_rounds.specs.Waiting.{decision_in, Awaits, Knows}
 use Rattle.ordered_rounds.specs.OrderedStands.{has_begun, OrderedStands}
 use Rattle.ordered_rounds.specs.Turning.{IsMidway, IsWaitKnown, TookWord, IsNear}
@@ -38,26 +38,11 @@ awaits_more v p d e (Some ids) stays k = record { value = k.value; is = stays k.
 
 -- ---- one box exchanged
 
-with_same : {V : Type 0} (b : Boxes V) (k : ℕ) (o : Option V) → k < 3 → box_at (with_box b k o) k ≡ o
-with_same b zero o l = refl
-with_same b (suc zero) o l = refl
-with_same b (suc (suc zero)) o l = refl
-with_same b (suc (suc (suc k))) o l = absurd (omega (arith, l))
+exchanged_same : {V : Type 0} (old new : Boxes V) (k j : ℕ) (one : V) → IsExchanged old new k one → j ≡ k → box_at new j ≡ Some one
+exchanged_same old new k j one is same = is j ∙ ap (λ (t : Bool). if t then Some one else box_at old j) (eq-eqb j k same)
 
-with_other : {V : Type 0} (b : Boxes V) (k j : ℕ) (o : Option V) → k < 3 → j < 3 → (j ≡ k → ⊥) → box_at (with_box b k o) j ≡ box_at b j
-with_other b zero zero o l m ne = absurd (ne refl)
-with_other b zero (suc zero) o l m ne = refl
-with_other b zero (suc (suc zero)) o l m ne = refl
-with_other b (suc zero) zero o l m ne = refl
-with_other b (suc zero) (suc zero) o l m ne = absurd (ne refl)
-with_other b (suc zero) (suc (suc zero)) o l m ne = refl
-with_other b (suc (suc zero)) zero o l m ne = refl
-with_other b (suc (suc zero)) (suc zero) o l m ne = refl
-with_other b (suc (suc zero)) (suc (suc zero)) o l m ne = absurd (ne refl)
-with_other b (suc (suc (suc k))) j o l m ne = absurd (omega (arith, l))
-with_other b zero (suc (suc (suc j))) o l m ne = absurd (omega (arith, m))
-with_other b (suc zero) (suc (suc (suc j))) o l m ne = absurd (omega (arith, m))
-with_other b (suc (suc zero)) (suc (suc (suc j))) o l m ne = absurd (omega (arith, m))
+exchanged_other : {V : Type 0} (old new : Boxes V) (k j : ℕ) (one : V) → IsExchanged old new k one → (j ≡ k → ⊥) → box_at new j ≡ box_at old j
+exchanged_other old new k j one is ne = is j ∙ ap (λ (t : Bool). if t then Some one else box_at old j) (ne_eqb j k ne)
 
 module _ {V : Type 0} (stands : V → Desk → List Word → Type 0) (v : RoundRules) (laws : RoundLaws v) (live : V → Bool) (shown : V → RoundShown) (shows : AllShow stands v live shown) where
   module _ (x : Ordered V) (seat : Seat) (w : List Word) (s : Slot) (u : List ℕ) (h : OrderedStands stands v shown x seat w) (may : MayHear (ordered v) seat w s u)
@@ -81,8 +66,8 @@ module _ {V : Type 0} (stands : V → Desk → List Word → Type 0) (v : RoundR
     begun : s.a ≤ n
     begun = (comes_to v laws seat session s u w met other).begun
 
-    recent : n ≤ s.a + 2
-    recent = (comes_to v laws seat session s u w met other).recent
+    kept : is_kept seat.mode.version n s.a ≡ true
+    kept = (comes_to v laws seat session s u w met other).kept
 
     may_inner : MayRound v (round_desk v seat s.a) (round_words v seat s.a w) (Hear s u)
     may_inner = (comes_to v laws seat session s u w met other).may
@@ -90,12 +75,9 @@ module _ {V : Type 0} (stands : V → Desk → List Word → Type 0) (v : RoundR
     k_is : s.a + k ≡ n
     k_is = let e = h.completed in let l = begun in omega (arith, e, l)
 
-    k_few : k < 3
-    k_few = let e = h.completed in let l = recent in omega (arith, e, l)
-
     -- its box is there
     there : (one : V) × (box_at x.boxes k ≡ Some one)
-    there = go (box_at x.boxes k) refl (h.boxes s.a k k_is k_few small)
+    there = go (box_at x.boxes k) refl (h.boxes s.a k k_is kept small)
       where
         go : (o : Option V) → box_at x.boxes k ≡ o → Stood stands o (round_desk v seat s.a) (round_words v seat s.a w) → (one : V) × (box_at x.boxes k ≡ Some one)
         go (Some one) e stood = (one, e)
@@ -118,20 +100,20 @@ module _ {V : Type 0} (stands : V → Desk → List Word → Type 0) (v : RoundR
     same_delivered : delivered_ids (Hear s u ∷ w) ≡ delivered_ids w
     same_delivered = ap (λ (b : Bool). if b then record { origin = s.origin; num = s.a } ∷ delivered_ids w else delivered_ids w) other
 
-    module _ (b : Boxes V) (one next : V) (is : box_at x.boxes k ≡ Some one) (set : b ≡ with_box x.boxes k (Some next)) where
+    module _ (b : Boxes V) (one next : V) (is : box_at x.boxes k ≡ Some one) (set : IsExchanged x.boxes b k next) where
       stood : stands one (round_desk v seat s.a) (round_words v seat s.a w)
-      stood = subst (λ (o : Option V). Stood stands o (round_desk v seat s.a) (round_words v seat s.a w)) is (h.boxes s.a k k_is k_few small)
+      stood = subst (λ (o : Option V). Stood stands o (round_desk v seat s.a) (round_words v seat s.a w)) is (h.boxes s.a k k_is kept small)
 
       at_mine : (a j : ℕ) → a ≡ s.a → a + j ≡ n → box_at b j ≡ Some next
       at_mine a j same e =
           let i = k_is in
           let j_is : j ≡ k = omega (arith, same, e, i) in
-          ap₂ (λ (t : Boxes V) (m : ℕ). box_at t m) set j_is ∙ with_same x.boxes k (Some next) k_few
+          exchanged_same x.boxes b k j next set j_is
 
-      at_other : (a j : ℕ) → (a ≡ s.a → ⊥) → a + j ≡ n → j < 3 → box_at b j ≡ box_at x.boxes j
-      at_other a j ne e few =
+      at_other : (a j : ℕ) → (a ≡ s.a → ⊥) → a + j ≡ n → box_at b j ≡ box_at x.boxes j
+      at_other a j ne e =
           let i = k_is in
-          ap (λ (t : Boxes V). box_at t j) set ∙ with_other x.boxes k j (Some next) k_few few (λ same. ne (omega (arith, same, e, i)))
+          exchanged_other x.boxes b k j next set (λ same. ne (omega (arith, same, e, i)))
 
       heard_boxes : stands next (round_desk v seat s.a) (Hear s u ∷ round_words v seat s.a w) → BoxesStand stands v seat n (heard_words v seat (Hear s u) w) b
       heard_boxes heard a j e few less =
@@ -141,14 +123,14 @@ module _ {V : Type 0} (stands : V → Desk → List Word → Type 0) (v : RoundR
                 (subst (λ (i : ℕ). stands next (round_desk v seat i) (heard_words v seat (Hear s u) w i)) (sym same)
                 (subst (λ (ds : List Word). stands next (round_desk v seat s.a) (ds ++ round_words v seat s.a w)) (sym mine) heard))
             | inr ne ↦
-                subst (λ (o : Option V). Stood stands o (round_desk v seat a) (heard_words v seat (Hear s u) w a)) (sym (at_other a j ne e few))
+                subst (λ (o : Option V). Stood stands o (round_desk v seat a) (heard_words v seat (Hear s u) w a)) (sym (at_other a j ne e))
                 (subst (λ (ds : List Word). Stood stands (box_at x.boxes j) (round_desk v seat a) (ds ++ round_words v seat a w)) (sym (not_mine a ne))
                 (h.boxes a j e few less))
           ]
 
       -- the current round's box, where it is another or this one
       current_other : (s.a ≡ n → ⊥) → b.current ≡ x.boxes.current
-      current_other ne = at_other n 0 (λ e. ne (sym e)) (omega arith) (omega arith)
+      current_other ne = at_other n 0 (λ e. ne (sym e)) (omega arith)
 
       current_mine : s.a ≡ n → (b.current ≡ Some next) × (x.boxes.current ≡ Some one)
       current_mine same =
@@ -186,6 +168,7 @@ module _ {V : Type 0} (stands : V → Desk → List Word → Type 0) (v : RoundR
           session = session;
           met = met;
           numbers = h.seated.numbers;
+          version = h.seated.version;
           last = h.seated.last;
           me = h.seated.me;
           inputs = h.seated.inputs;
@@ -215,7 +198,7 @@ module _ {V : Type 0} (stands : V → Desk → List Word → Type 0) (v : RoundR
                 (subst (λ (i : ℕ). BoxNear stands v laws live shown shows next (round_desk v seat i) (round_words v seat i w) (heard_words v seat (Hear s u) w i)) (sym same)
                 (subst (λ (ds : List Word). BoxNear stands v laws live shown shows next (round_desk v seat s.a) (round_words v seat s.a w) (ds ++ round_words v seat s.a w)) (sym mine) near))
             | inr ne ↦
-                subst (λ (o : Option V). OneNear stands v laws live shown shows o (round_desk v seat a) (round_words v seat a w) (heard_words v seat (Hear s u) w a)) (sym (at_other a j ne e few))
+                subst (λ (o : Option V). OneNear stands v laws live shown shows o (round_desk v seat a) (round_words v seat a w) (heard_words v seat (Hear s u) w a)) (sym (at_other a j ne e))
                 (still_near (box_at x.boxes j) (round_desk v seat a) (round_words v seat a w) (heard_words v seat (Hear s u) w a) (h.boxes a j e few less))
           ]
         where
@@ -230,6 +213,7 @@ module _ {V : Type 0} (stands : V → Desk → List Word → Type 0) (v : RoundR
             session = session;
             met = met;
             numbers = h.seated.numbers;
+            version = h.seated.version;
             last = h.seated.last;
             inputs = inl h.seated.inputs;
             completed = h.completed;
@@ -245,20 +229,20 @@ module _ {V : Type 0} (stands : V → Desk → List Word → Type 0) (v : RoundR
       pub mid_heard : (j : ℕ) → j ≡ k → HearsBox stands v live shown bits j x.boxes b s u said made (Ok tt) → IsMidway stands v shown (record x { boxes = b }) seat w (Hear s u)
       mid_heard j same hears =
           let o = there in
-          let y = subst (λ (i : ℕ). (one : V) → box_at x.boxes i ≡ Some one → (next : V) × (b ≡ with_box x.boxes i (Some next)) × RoundHears stands v live shown bits one next s u said made (Ok tt)) same hears o.0 o.1 in
+          let y = subst (λ (i : ℕ). (one : V) → box_at x.boxes i ≡ Some one → (next : V) × IsExchanged x.boxes b i next × RoundHears stands v live shown bits one next s u said made (Ok tt)) same hears o.0 o.1 in
           mid_round b o.0 y.0 o.1 y.1 (y.2.grows (round_desk v seat s.a) (round_words v seat s.a w) (stood b o.0 y.0 o.1 y.1) (coin, may_inner))
 
       pub made_heard : (j : ℕ) → j ≡ k → HearsBox stands v live shown bits j x.boxes b s u said made (Ok tt) → made ≡ said ++ heard_says v seat w (Hear s u)
       made_heard j same hears =
           let o = there in
-          let y = subst (λ (i : ℕ). (one : V) → box_at x.boxes i ≡ Some one → (next : V) × (b ≡ with_box x.boxes i (Some next)) × RoundHears stands v live shown bits one next s u said made (Ok tt)) same hears o.0 o.1 in
+          let y = subst (λ (i : ℕ). (one : V) → box_at x.boxes i ≡ Some one → (next : V) × IsExchanged x.boxes b i next × RoundHears stands v live shown bits one next s u said made (Ok tt)) same hears o.0 o.1 in
           y.2.made (round_desk v seat s.a) (round_words v seat s.a w) (stood b o.0 y.0 o.1 y.1) (coin, may_inner) ∙ ap (λ (ys : List Say). said ++ ys) (sym round_says)
 
       -- another's did
       pub took_other : (j : ℕ) → j ≡ k → (j ≡ 0 → ⊥) → HearsBox stands v live shown bits j x.boxes b s u said made (Ok tt) → TookWord stands v shown (record x { boxes = b }) seat w (Hear s u) said made
       took_other j same ne hears =
           let o = there in
-          let y = subst (λ (i : ℕ). (one : V) → box_at x.boxes i ≡ Some one → (next : V) × (b ≡ with_box x.boxes i (Some next)) × RoundHears stands v live shown bits one next s u said made (Ok tt)) same hears o.0 o.1 in
+          let y = subst (λ (i : ℕ). (one : V) → box_at x.boxes i ≡ Some one → (next : V) × IsExchanged x.boxes b i next × RoundHears stands v live shown bits one next s u said made (Ok tt)) same hears o.0 o.1 in
           let e = h.completed in
           let apart : s.a ≡ n → ⊥ = λ now. ne (omega (arith, now, e, same)) in
           let still = no_step v laws seat session s u w met other (ne_eqb s.a n apart) in
@@ -272,6 +256,6 @@ module _ {V : Type 0} (stands : V → Desk → List Word → Type 0) (v : RoundR
       pub near_heard : (j : ℕ) → j ≡ k → (e : Mem) → HearsBox stands v live shown bits j x.boxes b s u said made (Err e) → IsNear stands v shown (record x { boxes = b }) seat w (Hear s u)
       near_heard j same e hears =
           let o = there in
-          let y = subst (λ (i : ℕ). (one : V) → box_at x.boxes i ≡ Some one → (next : V) × (b ≡ with_box x.boxes i (Some next)) × RoundHears stands v live shown bits one next s u said made (Err e)) same hears o.0 o.1 in
+          let y = subst (λ (i : ℕ). (one : V) → box_at x.boxes i ≡ Some one → (next : V) × IsExchanged x.boxes b i next × RoundHears stands v live shown bits one next s u said made (Err e)) same hears o.0 o.1 in
           let near = y.2.shows (round_desk v seat s.a) (round_words v seat s.a w) (stood b o.0 y.0 o.1 y.1) (coin, may_inner) in
           before_round b o.0 y.0 o.1 y.1 (record { opens = near.opens; spent = elim near.ending [ inl e ↦ inl e.1 | inr e ↦ inr e.1 ]; decided = elim near.ending [ inl e ↦ inl (e.0, e.2) | inr e ↦ inr (e.0, e.2) ] })

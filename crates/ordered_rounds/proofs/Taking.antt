@@ -38,7 +38,7 @@ module _ {V : Type 0} (stands : V → Desk → List Word → Type 0) (v : RoundR
       let knows = learns m.waits in
       subst (λ (z : Ordered V). IsWaitKnown stands v shown z seat w c) (sym made) (record {
         mid = record {
-          seated = record { session = m.seated.session; met = m.seated.met; numbers = m.seated.numbers; me = m.seated.me; last = m.seated.last; inputs = m.seated.inputs; live = m.seated.live };
+          seated = record { session = m.seated.session; met = m.seated.met; numbers = m.seated.numbers; version = m.seated.version; me = m.seated.me; last = m.seated.last; inputs = m.seated.inputs; live = m.seated.live };
           ledger = m.ledger;
           completed = m.completed;
           boxes = m.boxes;

@@ -8,6 +8,7 @@ use Rattle.std.proofs.lemmas.Option.{none-some}
 use Rattle.ritas_base.specs.declared.id.Id.{Id}
 use Rattle.ritas_base.specs.declared.item.Say.{Say}
 use Rattle.ritas_base.specs.Numbers.{Numbers, IsSession}
+use Rattle.ritas_base.specs.Versions.{has_past}
 use Rattle.frame_codec.specs.Values.{ids_bytes}
 use Rattle.layer_api.specs.Service.{Seat, AreProper}
 use Rattle.layer_api.specs.Words.{Word, Ask}
@@ -15,7 +16,8 @@ use Rattle.layer_api.specs.Part.{newly_asked, says_in}
 use Rattle.layer_api.specs.Multi.{Desk}
 use Rattle.ordered_rounds.specs.Box.{RoundRules, RoundLaws}
 use Rattle.ordered_rounds.specs.BoxCalls.{RoundShown}
-use Rattle.ordered_rounds.specs.Rounds.{delivered_ids, round_desk, round_ask, round_words, rounds_say_below, rounds, ordered}
+use Rattle.ordered_rounds.specs.Rounds.{delivered_ids, round_desk, round_ask, round_words, rounds_say_below, rounds, is_kept, ordered}
+use Rattle.ordered_rounds.specs.Laws.Kept.{kept_near, kept_before, kept_recent}
 use Rattle.ordered_rounds.specs.Laws.AskedFirst.{ask_stays, words_new}
 use Rattle.ordered_rounds.specs.Stepping.{current, log_now, heard_says, heard_words, next_ask, next_says}
 use Rattle.ordered_rounds.specs.Laws.Stepping.{unasked, not_ahead, steps, full_is}
@@ -25,7 +27,6 @@ use Rattle.ordered_rounds.specs.Waiting.{decision_in, Knows}
 use Rattle.ordered_rounds.specs.Turning.{IsMidway, IsRoundDue, IsGoing, IsNow, Poised, Turned}
 use Rattle.ordered_rounds.specs.Laws.Getters.{full_not_spent, AllShow}
 use Rattle.ordered_rounds.specs.declared.place.Place.{Place}
-use Rattle.ordered_rounds.specs.declared.boxes.Boxes.{Boxes}
 use Rattle.ordered_rounds.specs.declared.ordered.Ordered.{Ordered}
 use Rattle.ordered_rounds.proofs.Stepped.{some_value, Stays, Goes, words_heard, was_asked, not_spent_before}
 
@@ -73,7 +74,7 @@ module _ {V : Type 0} (stands : V → Desk → List Word → Type 0) (v : RoundR
         let u = some_value (round_ask v seat n w) b.1 in
         let small : n < rounds = ltb-true n rounds b.0 in
         let heard : Stood stands (Some one) (round_desk v seat n) (heard_words v seat c w n) =
-        subst (λ (o : Option V). Stood stands o (round_desk v seat n) (heard_words v seat c w n)) is (m.boxes n 0 (omega arith) (omega arith) small) in
+        subst (λ (o : Option V). Stood stands o (round_desk v seat n) (heard_words v seat c w n)) is (m.boxes n 0 (omega arith) (kept_near seat.mode.version n n (omega arith)) small) in
         record {
           round = subst (λ (k : ℕ). k < rounds) (sym stays.remains.same) small;
           asked = ap (λ (k : ℕ). is_some (round_ask v seat k (c ∷ w))) stays.remains.same ∙ ap is_some (ask_stays v laws seat session n c w u.0 u.1);
@@ -146,17 +147,12 @@ module _ {V : Type 0} (stands : V → Desk → List Word → Type 0) (v : RoundR
           older = λ a k e more few small.
               let below : a < n = omega (arith, e, more, same) in
               subst (λ (u : List Word). Stood stands (box_at x.boxes k) (round_desk v seat a) u) (sym ((steps v laws seat session c w met).below a below))
-              (m.boxes a k (e ∙ same) few small);
+              (m.boxes a k (e ∙ same) (ap (λ (i : ℕ). is_kept seat.mode.version i a) (sym same) ∙ few) small);
           here = here_stays;
           knows = knows;
         }
 
   -- ---- the current round is complete
-
-  shifted_at : (b : Boxes V) (k : ℕ) → k < 2 → box_at (record { current = None; last = b.current; oldest = b.last }) (suc k) ≡ box_at b k
-  shifted_at b zero l = refl
-  shifted_at b (suc zero) l = refl
-  shifted_at b (suc (suc k)) l = absurd (omega (arith, l))
 
   -- the boxes are shifted, and the round's identifiers appended
   pub record Shifted (x y : Ordered V) (delivered log : List Id) : Type 0 where
@@ -165,15 +161,16 @@ module _ {V : Type 0} (stands : V → Desk → List Word → Type 0) (v : RoundR
     pub as_live : y.live ≡ x.live
     pub ledger : LedgerStands y.ledger delivered log
     pub completed : y.completed ≡ suc x.completed
-    pub boxes : y.boxes ≡ record { current = None; last = x.boxes.current; oldest = x.boxes.last }
+    pub current : y.boxes.current ≡ None
+    pub older : (k : ℕ) → (has_past x.place.version ≡ true → k < 2) → box_at y.boxes (suc k) ≡ box_at x.boxes k
     pub waits : y.waits ≡ None
 
   module _ (x y : Ordered V) (seat : Seat) (w : List Word) (c : Word) (m : IsMidway stands v shown x seat w c) (goes : Goes v seat c w)
       (s : Shifted x y (delivered_ids (c ∷ w)) goes.log) where
-    older_shifted : (a k : ℕ) → a + suc k ≡ suc (current v seat w) → k < 2 → a < rounds
+    older_shifted : (a k : ℕ) → a + suc k ≡ suc (current v seat w) → is_kept seat.mode.version (suc (current v seat w)) a ≡ true → a < rounds
         → Stood stands (box_at x.boxes k) (round_desk v seat a) (round_words v seat a (c ∷ w))
     older_shifted a k e few small =
-        subst (λ (u : List Word). Stood stands (box_at x.boxes k) (round_desk v seat a) u) (sym words) (m.boxes a k (omega (arith, e)) (omega (arith, few)) small)
+        subst (λ (u : List Word). Stood stands (box_at x.boxes k) (round_desk v seat a) u) (sym words) (m.boxes a k (omega (arith, e)) (kept_before seat.mode.version _ _ a (omega arith) few) small)
       where
         words : round_words v seat a (c ∷ w) ≡ heard_words v seat c w a
         words = elim (cases_lt a (current v seat w)) [
@@ -188,8 +185,9 @@ module _ {V : Type 0} (stands : V → Desk → List Word → Type 0) (v : RoundR
     older_next a zero e more few small = absurd (omega (arith, more))
     older_next a (suc k) e more few small =
         subst (λ (o : Option V). Stood stands o (round_desk v seat a) (round_words v seat a (c ∷ w)))
-        (sym (ap (λ (b : Boxes V). box_at b (suc k)) s.boxes ∙ shifted_at x.boxes k (omega (arith, few))))
-        (older_shifted a k (e ∙ goes.advances.next) (omega (arith, few)) small)
+        (sym (s.older k (λ past.
+        let l = kept_recent seat.mode.version _ a few (sym (ap has_past m.seated.version) ∙ past) in omega (arith, e, l))))
+        (older_shifted a k (e ∙ goes.advances.next) (ap (λ (i : ℕ). is_kept seat.mode.version i a) (sym goes.advances.next) ∙ few) small)
 
     due_next : IsRoundDue stands v shown seat w c
     due_next =
@@ -213,6 +211,7 @@ module _ {V : Type 0} (stands : V → Desk → List Word → Type 0) (v : RoundR
         session = m.seated.session;
         met = m.seated.met;
         numbers = ap (λ (q : Place). q.numbers) s.place ∙ m.seated.numbers;
+        version = ap (λ (q : Place). q.version) s.place ∙ m.seated.version;
         last = ap (λ (q : Place). q.last) s.place ∙ m.seated.last;
         me = ap (λ (q : Place). q.me) s.place ∙ m.seated.me;
         inputs = s.inputs ∙ m.seated.inputs;
@@ -221,8 +220,8 @@ module _ {V : Type 0} (stands : V → Desk → List Word → Type 0) (v : RoundR
       ledger = subst (λ (log : List Id). LedgerStands y.ledger (delivered_ids (c ∷ w)) log) (sym goes.advances.log_is) s.ledger;
       completed = s.completed ∙ (ap suc m.completed ∙ sym goes.advances.next);
       older = older_next;
-      here = subst (λ (b : Boxes V). IsNow stands v shown b.current seat w c) (sym s.boxes) due_next;
-      knows = knows_none v y.place.numbers (decision_in shown y.boxes.current) y.waits s.waits (ap (λ (b : Boxes V). decision_in shown b.current) s.boxes);
+      here = subst (λ (o : Option V). IsNow stands v shown o seat w c) (sym s.current) due_next;
+      knows = knows_none v y.place.numbers (decision_in shown y.boxes.current) y.waits s.waits (ap (decision_in shown) s.current);
     }
 
   -- ---- the next round begins, or doesn't
@@ -237,9 +236,7 @@ module _ {V : Type 0} (stands : V → Desk → List Word → Type 0) (v : RoundR
     all_stand o now a zero e few small =
         let same : a ≡ m = omega (arith, e) in
         subst (λ (k : ℕ). Stood stands o (round_desk v seat k) (round_words v seat k (c ∷ w))) (sym same) (now (subst (λ (k : ℕ). k < rounds) same small))
-    all_stand o now a (suc zero) e few small = p.older a 1 e (omega arith) (omega arith) small
-    all_stand o now a (suc (suc zero)) e few small = p.older a 2 e (omega arith) (omega arith) small
-    all_stand o now a (suc (suc (suc k))) e few small = absurd (omega (arith, few))
+    all_stand o now a (suc k) e few small = p.older a (suc k) e (omega arith) few small
 
     -- it began before
     pub turned_going : (one : V) (said : List Say) → x.boxes.current ≡ Some one → Turned stands v shown x seat w c said said
@@ -299,7 +296,7 @@ module _ {V : Type 0} (stands : V → Desk → List Word → Type 0) (v : RoundR
         let u : List ℕ = ids_bytes ids in
         subst (λ (z : Ordered V). Turned stands v shown z seat w c before after) (sym made) (record {
           now = record {
-            seated = record { session = p.seated.session; met = p.seated.met; numbers = p.seated.numbers; me = p.seated.me; last = p.seated.last; inputs = p.seated.inputs; live = p.seated.live };
+            seated = record { session = p.seated.session; met = p.seated.met; numbers = p.seated.numbers; version = p.seated.version; me = p.seated.me; last = p.seated.last; inputs = p.seated.inputs; live = p.seated.live };
             ledger = p.ledger;
             completed = p.completed;
             boxes = all_stand (Some one) (λ l. subst (λ (us : List Word). stands one (round_desk v seat m) us) (sym (due.words l ∙ ap (newly_asked None) ask)) began.grows);

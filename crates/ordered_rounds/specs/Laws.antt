@@ -1,6 +1,7 @@
 -- What the laws are proved by. No contract reads it.
 pub mod Ordered
 pub mod LogsByRound
+pub mod Kept
 pub mod CompleteRounds
 pub mod WordsMeet
 pub mod AskedFirst

@@ -6,6 +6,7 @@ pub mod Early
 pub mod Pending
 pub mod Ledger
 pub mod Boxes
+pub mod KeptRows
 pub mod Backing
 pub mod Waiting
 pub mod OrderedGetters

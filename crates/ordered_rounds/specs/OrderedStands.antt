@@ -20,6 +20,7 @@ pub record Seated {V : Type 0} (v : RoundRules) (x : Ordered V) (seat : Seat) (w
   pub session : IsSession seat.numbers
   pub met : AreProper (ordered v) seat w
   pub numbers : x.place.numbers ≡ seat.numbers
+  pub version : x.place.version ≡ seat.mode.version
   pub me : x.place.me ≡ seat.me
   pub last : x.place.last ≡ last_attempt v seat.numbers
   pub inputs : x.inputs ≡ asked w

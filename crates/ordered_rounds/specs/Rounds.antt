@@ -1,6 +1,6 @@
 -- Atomic broadcast by the words so far, the newest first, over any rounds: commands are broadcast, and in each round it is
 -- decided which identifiers are appended to the identifier log.
-use Rattle.std.specs.Prelude.{ℕ, zero, suc, ◌+◌, ◌/◌, Bool, true, false, not, ◌==◌, ◌&&◌, nat_le, nat_lt, if◌then◌else◌, List, [], ◌∷◌, ◌++◌, length, Option, Some, None, is_some, unwrap_or}
+use Rattle.std.specs.Prelude.{ℕ, zero, suc, ◌+◌, ◌/◌, Bool, true, false, not, ◌==◌, ◌&&◌, ◌||◌, nat_le, nat_lt, if◌then◌else◌, List, [], ◌∷◌, ◌++◌, length, Option, Some, None, is_some, unwrap_or}
 use Rattle.std.specs.List.{find, range_with_len}
 use Rattle.std.specs.Option.{option_or}
 use Rattle.ritas_base.specs.declared.slot.Slot.{Slot}
@@ -10,6 +10,8 @@ use Rattle.ritas_base.specs.Limits.{number_limit}
 use Rattle.ritas_base.specs.Numbers.{Numbers}
 use Rattle.ritas_base.specs.Shortest.{at_shortest}
 use Rattle.ritas_base.specs.Slots.{command_slot}
+use Rattle.ritas_base.specs.Versions.{has_past}
+use Rattle.ritas_base.specs.declared.mode.FrameVersion.{FrameVersion}
 use Rattle.frame_codec.specs.Limits.{most_ids}
 use Rattle.frame_codec.specs.Values.{ids_bytes, ids_of}
 use Rattle.layer_api.specs.Words.{Word, Ask, Hear, is_heard, asked}
@@ -138,10 +140,15 @@ rounds = number_limit
 abbrev pub least_without : List Id → ℕ → ℕ
 least_without log origin = unwrap_or (find (λ k. is_without log (record { origin = origin; num = k })) (range_with_len 0 (length log + 1))) (length log)
 
--- whether items of a round's slot may be taken: the round isn't past, and its instance takes them
+-- whether a round is kept where so many are complete: where there is a past, the current round and the two before it are,
+-- and where there is none, each is
+abbrev pub is_kept : FrameVersion → ℕ → ℕ → Bool
+is_kept version completed a = not (has_past version) || nat_le completed (a + rounds_kept)
+
+-- whether items of a round's slot may be taken: the round is kept, and its instance takes them
 abbrev pub round_opens : RoundRules → Seat → List Word → Slot → Bool
 round_opens v seat w s =
-    nat_lt s.a rounds && (nat_le (complete_of v seat rounds w) (s.a + rounds_kept)
+    nat_lt s.a rounds && (is_kept seat.mode.version (complete_of v seat rounds w) s.a
     && (is_round_slot v (round_scope v seat.numbers s.a) s && v.opens (round_desk v seat s.a) (round_words v seat s.a w) s))
 
 -- the vector of a round, where one is decided

@@ -1,6 +1,6 @@
 -- What one word does to the rounds. The round that it is of hears it. The first round that isn't complete may be asked by it, or may
 -- become complete, and then the next one may be asked. No other round changes.
-use Rattle.std.specs.Prelude.{◌≡◌, ℕ, suc, ◌+◌, ◌<◌, ◌≤◌, ◌==◌, if◌then◌else◌, nat_lt, List, [], ◌∷◌, ◌++◌, Option, Some, None}
+use Rattle.std.specs.Prelude.{◌≡◌, ℕ, suc, ◌<◌, ◌≤◌, ◌==◌, if◌then◌else◌, nat_lt, true, List, [], ◌∷◌, ◌++◌, Option, Some, None}
 use Rattle.std.specs.Option.{option_or}
 use Rattle.ritas_base.specs.declared.slot.Slot.{Slot}
 use Rattle.ritas_base.specs.declared.id.Id.{Id}
@@ -9,7 +9,7 @@ use Rattle.layer_api.specs.Words.{Word, Ask, Hear}
 use Rattle.layer_api.specs.Service.{Seat}
 use Rattle.layer_api.specs.Part.{newly_asked, passed, says_in}
 use Rattle.ordered_rounds.specs.Box.{RoundRules, MayRound}
-use Rattle.ordered_rounds.specs.Rounds.{pending, first_ids, round_desk, is_of_round, completes_with, round_ask, round_words, complete_of, log_of, rounds_say_below, rounds}
+use Rattle.ordered_rounds.specs.Rounds.{pending, first_ids, round_desk, is_of_round, completes_with, round_ask, round_words, complete_of, log_of, rounds_say_below, rounds, is_kept}
 
 module _ (v : RoundRules) (seat : Seat) where
   -- the first round that isn't complete, and the log of those before it
@@ -19,11 +19,11 @@ module _ (v : RoundRules) (seat : Seat) where
   abbrev pub log_now : List Word → List Id
   log_now w = log_of v seat rounds w
 
-  -- what a slot of a round delivered comes to the round's box, which isn't past and was asked
+  -- what a slot of a round delivered comes to the round's box, which is kept and was asked
   pub record ComesToRound (w : List Word) (s : Slot) (x : List ℕ) : Type 0 where
     pub round : s.a < rounds
     pub begun : s.a ≤ current w
-    pub recent : current w ≤ s.a + 2
+    pub kept : is_kept seat.mode.version (current w) s.a ≡ true
     pub may : MayRound v (round_desk v seat s.a) (round_words v seat s.a w) (Hear s x)
 
   -- what the round of a word says to it

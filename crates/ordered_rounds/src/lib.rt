@@ -4,7 +4,8 @@
 //! decided that wants identifiers in the log, and the round is complete once their commands are
 //! delivered. `RoundBox` is the trait of a round: its calls, what they mean, and the laws that each
 //! kind of round proves. `Ordered` is the service over any such rounds: it has the commands that are
-//! pending, the rounds one after the other, the windows and the identifier log.
+//! pending, the rounds one after the other, the windows and the identifier log. In versions 1 and 2 of
+//! a session it keeps the current round and the two before it, in version 3 each round that began.
 //!
 //! Its contract is that of `Service`, with the rules `ordered` of `specs/Rounds.antt`; its laws, over
 //! any rounds that keep theirs, are `one_log_of_rounds`, `rounds_agree` and `word_laws_of_rounds`.

@@ -7,7 +7,7 @@ use crate::round_box::RoundBox;
 use crate::rounds::{begin_round, learn, note_command};
 use crate::saying::say_command;
 use layer_api::{Outcome, Service, is_slot_in, put_out};
-use ritas_base::{Coin, Id, Mem, NUMBER_LIMIT, Params, Say, Slot};
+use ritas_base::{Coin, Id, Mem, Mode, NUMBER_LIMIT, Params, Say, Slot};
 use std::alloc::Global;
 
 /// Atomic broadcast over any rounds, for the root service whose rounds they are.
@@ -18,10 +18,13 @@ use std::alloc::Global;
 /// them. The round is complete once it is decided and the command of each identifier is delivered that the decision
 /// wants; those that the log hasn't are appended to it in ascending order, by origin and then by number.
 ///
-/// It keeps identifiers and no commands: those that were delivered and aren't in the log, and the log. Of the rounds it
-/// keeps the boxes of the current one and of the two before it. A slot of a round costs what it costs the round's box, and
-/// a command the logarithm of how many identifiers are kept; while the current round waits, either costs that for each
-/// identifier that it waits for, up to the first whose command isn't there. There are 1,000,000 rounds at most.
+/// It keeps identifiers and no commands: those that were delivered and aren't in the log, and the log. In
+/// versions 1 and 2 of a session it keeps of the rounds the boxes of the current one and of the two before
+/// it, and what an older round delivers is past. In version 3 nothing is past: it keeps the box of each round
+/// that began, to the end of the session, so that each round takes the memory of one box more. A slot of a
+/// round costs what it costs the round's box, whichever round it is, and a command the logarithm of how many
+/// identifiers are kept; while the current round waits, either costs that for each identifier that it waits
+/// for, up to the first whose command isn't there. There are 1,000,000 rounds at most.
 ///
 /// Memory is taken for identifiers, for boxes, for what is proposed and for what is said. After want of memory the value
 /// isn't `live`; its getters then answer as before the word or as after it, and the log lies between.
@@ -44,17 +47,18 @@ impl<V: RoundBox> Ordered<V> {
     ghost use Rattle.ordered_rounds.specs.OrderedStands.{OrderedEnds};
     ghost use Rattle.ordered_rounds.specs.Turning.{Completes, CompletesNot, RoundBegins, RoundSettles, SettlesNot, TakesCommand, LosesCommand, TakesRound, LosesRound, TakesWord, LosesWord};
 
-    // Whether the instance of a slot's round, which began and isn't past, takes its items.
+    // Whether the instance of a slot's round, which began and is kept, takes its items.
     fn is_round_open(&self, slot: &Slot) -> bool
-        ensures { result ≡ opens_round V.shown self.now.place.last self.now.completed self.now.boxes slot.now }
+        ensures { result ≡ opens_round V.shown self.now.place.version self.now.place.last self.now.completed self.now.boxes slot.now }
     {
         slot.a < NUMBER_LIMIT
             && slot.a <= self.completed
+            && self.place.keeps(self.completed, slot.a)
             && is_slot_in(self.place.last, slot.a, slot)
             && self.boxes.is_open(self.completed - slot.a, slot)
     }
 
-    // Completes the current round, once all that it waits for is there.
+    // Completes the current round, once all that it waits for is there. The memory for its box is taken first.
     fn complete(&mut self) -> Result<(), Mem>
         ensures ok { OnOk result (Completes V.stands V.rules V.shown self.old self.new) }
         ensures err { OnErr result (CompletesNot V.stands V.rules V.shown self.old self.new) }
@@ -63,8 +67,9 @@ impl<V: RoundBox> Ordered<V> {
             return Ok(());
         };
         if self.ledger.has_all(ids) {
+            self.boxes.reserve(self.place.version)?;
             self.ledger.append_new(ids)?;
-            self.boxes.shift();
+            self.boxes.shift(self.place.version);
             self.waits = None;
             self.completed = self.completed.saturating_add(1);
         }
@@ -184,13 +189,13 @@ impl<V: RoundBox> Service for Ordered<V> {
         root == V::service().number()
     }
 
-    fn new(alloc: Global, p: &Params, me: u8) -> Result<Ordered<V>, Mem> {
+    fn new(alloc: Global, p: &Params, mode: &Mode, me: u8) -> Result<Ordered<V>, Mem> {
         Ok(Ordered {
-            place: Place::new(p, me, V::service()),
+            place: Place::new(p, mode, me, V::service()),
             inputs: 0,
             ledger: Ledger::new(alloc),
             completed: 0,
-            boxes: Boxes::none(),
+            boxes: Boxes::none(alloc),
             waits: None,
             live: true,
         })

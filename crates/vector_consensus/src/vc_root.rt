@@ -1,7 +1,7 @@
 //! Vector consensus as root service 5: one instance, whose input is a value.
 
 use layer_api::{Outcome, Service, VectorBox, is_slot_in};
-use ritas_base::{Coin, Id, Mem, Params, Say, Slot};
+use ritas_base::{Coin, Id, Mem, Mode, Params, Say, Slot};
 use std::alloc::Global;
 
 /// Vector consensus as a root service, for root service 5: one instance, over any box.
@@ -35,7 +35,7 @@ impl<V: VectorBox> Service for VcRoot<V> {
         root == 5
     }
 
-    fn new(alloc: Global, p: &Params, me: u8) -> Result<VcRoot<V>, Mem> {
+    fn new(alloc: Global, p: &Params, _mode: &Mode, me: u8) -> Result<VcRoot<V>, Mem> {
         Ok(VcRoot {
             inner: V::new(alloc, p, me, 0)?,
             f: p.f(),

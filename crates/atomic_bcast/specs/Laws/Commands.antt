@@ -2,13 +2,14 @@
 use Rattle.std.specs.Prelude.{◌≡◌, ℕ, ◌+◌, ◌<◌, ◌≤◌, true, false, ◌==◌, nat_lt, List, [], ◌∷◌, Option, Some, None, MatchOption, length, unwrap_or, refl, ◌⊎◌}
 use Rattle.std.proofs.Common.{sym, ◌∙◌, ap, subst, inl, inr, arith}
 use Rattle.std.specs.List.{find, range_with_len, list_any}
-use Rattle.std.proofs.lemmas.Bool.{cases_order, or_cases, or_left, or_right, or_from, not-true, not-false, eq-eqb, eqb-true, lt-ltb, ltb-true, leb-false, both_ways, cond-true, false_from_ne_true}
+use Rattle.std.proofs.lemmas.Bool.{cases_order, and_right, or_cases, or_left, or_right, or_from, not-true, not-false, eq-eqb, eqb-true, lt-ltb, ltb-true, leb-false, both_ways, cond-true, false_from_ne_true}
 use Rattle.std.proofs.lemmas.Map.Steps.{le-length_from_below}
 use Rattle.ritas_base.specs.declared.slot.Slot.{Slot}
 use Rattle.ritas_base.specs.declared.mode.Mode.{Mode}
 use Rattle.ritas_base.specs.Numbers.{Numbers}
 use Rattle.ritas_base.specs.Slots.{has_class, slot_fault, command_slot}
 use Rattle.ritas_base.specs.SlotLaws.{right_command}
+use Rattle.ritas_base.specs.Versions.{has_past}
 use Rattle.ritas_base.specs.SlotOrder.{is_slot, same_slot}
 use Rattle.frame_codec.specs.Format.{Is}
 use Rattle.frame_codec.specs.Grammar.{value}
@@ -110,8 +111,9 @@ heard_near seat (Hear s v ∷ w) o k proper h =
 -- a slot that was heard isn't past
 pub heard_recent : (seat : Seat) (s : Slot) (v : List ℕ) (w : List Word) → AreProper commands seat (Hear s v ∷ w) → is_past commands seat (Hear s v ∷ w) s ≡ false
 heard_recent seat s v w proper =
-    cond-true (s.class == 1) (nat_lt (s.a + 64) (base_of (Hear s v ∷ w) s.origin)) (nat_lt (s.a + 2) 0) proper.0.is_open
-    ∙ false_from_ne_true _ (λ e. again ((base_is (Hear s v ∷ w) s.origin).below (s.a + 64) (ltb-true (s.a + 64) _ e)))
+    and_right (has_past seat.mode.version) _
+    (cond-true (s.class == 1) (nat_lt (s.a + 64) (base_of (Hear s v ∷ w) s.origin)) (nat_lt (s.a + 2) 0) proper.0.is_open
+    ∙ false_from_ne_true _ (λ e. again ((base_is (Hear s v ∷ w) s.origin).below (s.a + 64) (ltb-true (s.a + 64) _ e))))
   where
     again : is_heard (Hear s v ∷ w) (command_slot s.origin (s.a + 64)) ≡ true → ⊥
     again h =

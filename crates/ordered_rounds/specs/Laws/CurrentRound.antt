@@ -1,9 +1,9 @@
 -- The rounds below the current one were asked, and those above it weren't. What a slot delivered comes to a round that was asked. What
 -- the current round is after one word more.
-use Rattle.std.specs.Prelude.{◌≡◌, ℕ, suc, ◌+◌, ◌<◌, ◌≤◌, ◌==◌, nat_lt, nat_le, Bool, true, false, not, if◌then◌else◌, List, [], ◌∷◌, ◌++◌, Option, Some, None, refl, ◌⊎◌}
+use Rattle.std.specs.Prelude.{◌≡◌, ℕ, suc, ◌<◌, ◌≤◌, ◌==◌, nat_lt, Bool, true, false, not, if◌then◌else◌, List, [], ◌∷◌, ◌++◌, Option, Some, None, refl, ◌⊎◌}
 use Rattle.std.specs.Option.{option_or}
 use Rattle.std.proofs.Common.{sym, ◌∙◌, ap, ap₂, subst, inl, inr, arith}
-use Rattle.std.proofs.lemmas.Bool.{cases_lt, and_parts, and_from, eq-eqb, ltb-true, leb-true}
+use Rattle.std.proofs.lemmas.Bool.{cases_lt, and_parts, and_from, eq-eqb, ltb-true}
 use Rattle.std.proofs.lemmas.Option.{none-some}
 use Rattle.ritas_base.specs.declared.slot.Slot.{Slot}
 use Rattle.ritas_base.specs.declared.id.Id.{Id}
@@ -13,7 +13,7 @@ use Rattle.layer_api.specs.Words.{Word, Ask, Hear}
 use Rattle.layer_api.specs.Service.{Seat, AreProper}
 use Rattle.layer_api.specs.Part.{newly_asked}
 use Rattle.ordered_rounds.specs.Box.{RoundRules, RoundLaws, MayRound}
-use Rattle.ordered_rounds.specs.Rounds.{pending, proposal, round_desk, is_of_round, begins_with, completes_with, completes_at, log_below, round_ask, round_words, complete_of, rounds, ordered}
+use Rattle.ordered_rounds.specs.Rounds.{pending, proposal, round_desk, is_of_round, begins_with, completes_with, completes_at, log_below, round_ask, round_words, complete_of, is_kept, rounds, ordered}
 use Rattle.ordered_rounds.specs.Laws.Roots.{atomic_root}
 use Rattle.ordered_rounds.specs.Stepping.{current, log_now, heard_words, asked_now, words_now, completes_now, ComesToRound}
 use Rattle.ordered_rounds.specs.Laws.WordsMeet.{AreOfSession, first_good, pending_good, round_opened, round_hears}
@@ -67,12 +67,12 @@ module _ (v : RoundRules) (laws : RoundLaws v) (seat : Seat) (session : IsSessio
   pub comes_to : (s : Slot) (x : List ℕ) (w : List Word) → AreProper (ordered v) seat (Hear s x ∷ w) → (s.class == 1) ≡ false → ComesToRound v seat w s x
   comes_to s x w proper other =
       let o = and_parts (nat_lt s.a rounds) _ (round_opened v seat w s other proper.0.is_open) in
-      let t = and_parts (nat_le (complete_of v seat rounds w) (s.a + 2)) _ o.1 in
+      let t = and_parts (is_kept seat.mode.version (complete_of v seat rounds w) s.a) _ o.1 in
       let u = heard_asked s x w proper other in
       record {
         round = ltb-true s.a rounds o.0;
         begun = begun (cases_lt (current v seat w) s.a) u.0 u.1;
-        recent = leb-true (current v seat w) (s.a + 2) t.0;
+        kept = t.0;
         may = round_hears v seat s.a s x w proper.0 (own_round s other);
       }
     where

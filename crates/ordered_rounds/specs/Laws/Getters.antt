@@ -1,7 +1,8 @@
 -- What the getters of a value of atomic broadcast answer is what the rules say.
-use Rattle.std.specs.Prelude.{◌≡◌, ℕ, ◌+◌, ◌-◌, ◌<◌, ◌≤◌, ◌==◌, nat_lt, nat_le, Bool, true, false, not, ◌&&◌, if◌then◌else◌, List, [], ◌∷◌, ◌++◌, slice_index, Option, Some, None, is_some, refl, zero, suc}
+use Rattle.std.specs.Prelude.{◌≡◌, ℕ, ◌-◌, ◌<◌, ◌≤◌, ◌==◌, nat_lt, nat_le, Bool, true, false, not, ◌&&◌, if◌then◌else◌, List, [], ◌∷◌, ◌++◌, slice_index, Option, Some, None, is_some, refl, zero, suc}
 use Rattle.std.proofs.Common.{sym, ◌∙◌, ap, ap₂, subst, inl, inr, arith}
-use Rattle.std.proofs.lemmas.Bool.{cases_lt, lt-ltb, le-ltb, le-leb, lt-leb, and_right, and_left, or_from, or_left, cond-true, ne_eqb}
+use Rattle.std.proofs.lemmas.Bool.{cases_Bool, cases_lt, lt-ltb, le-ltb, le-leb, lt-leb, and_right, and_left, or_from, or_left, cond-true, ne_eqb}
+use Rattle.ritas_base.specs.declared.mode.FrameVersion.{FrameVersion}
 use Rattle.ritas_base.specs.declared.slot.Slot.{Slot}
 use Rattle.ritas_base.specs.declared.id.Id.{Id}
 use Rattle.ritas_base.specs.Numbers.{IsSession}
@@ -13,7 +14,8 @@ use Rattle.layer_api.specs.Multi.{Desk}
 use Rattle.ordered_rounds.specs.Box.{last_attempt, RoundRules, RoundLaws}
 use Rattle.layer_api.specs.Vectors.{is_slot_in}
 use Rattle.ordered_rounds.specs.BoxCalls.{RoundShown, ShowsRound}
-use Rattle.ordered_rounds.specs.Rounds.{delivered_ids, least_without, is_of_round, round_desk, log_below, round_ask, round_words, round_opens, rounds, ordered, round_decides, vector_of_round, last_complete, last_vector}
+use Rattle.ordered_rounds.specs.Rounds.{delivered_ids, least_without, is_of_round, round_desk, log_below, round_ask, round_words, round_opens, is_kept, rounds, ordered, round_decides, vector_of_round, last_complete, last_vector}
+use Rattle.ordered_rounds.specs.Laws.Kept.{kept_near}
 use Rattle.ordered_rounds.specs.Laws.WordsMeet.{round_stays, round_nothing}
 use Rattle.ordered_rounds.specs.Stepping.{current, log_now}
 use Rattle.ordered_rounds.specs.Laws.Stepping.{not_ahead, full_is}
@@ -32,46 +34,43 @@ use Rattle.ordered_rounds.specs.Laws.LogsByRound.{complete_small}
 -- ---- whether a slot of a round is open, by what the box of its round takes
 
 -- as a value tells it, and as the rules do
-abbrev pub slot_told : ℕ → ℕ → Slot → Bool → Bool
-slot_told f completed s takes = nat_lt s.a 1000000 && (nat_le s.a completed && (is_slot_in f s.a s && takes))
+abbrev pub slot_told : FrameVersion → ℕ → ℕ → Slot → Bool → Bool
+slot_told e f completed s takes = nat_lt s.a 1000000 && (nat_le s.a completed && (is_kept e completed s.a && (is_slot_in f s.a s && takes)))
 
-abbrev pub ruled : ℕ → ℕ → Slot → Bool → Bool
-ruled f completed s takes = nat_lt s.a rounds && (nat_le completed (s.a + 2) && (is_slot_in f s.a s && takes))
+abbrev pub ruled : FrameVersion → ℕ → ℕ → Slot → Bool → Bool
+ruled e f completed s takes = nat_lt s.a rounds && (is_kept e completed s.a && (is_slot_in f s.a s && takes))
 
 -- there is no such round
-pub none_beyond : (f n m : ℕ) (s : Slot) (t u : Bool) → rounds ≤ s.a → slot_told f n s t ≡ ruled f m s u
+pub none_beyond : (e : FrameVersion) (f n m : ℕ) (s : Slot) (t u : Bool) → rounds ≤ s.a → slot_told e f n s t ≡ ruled e f m s u
 unfolding rounds
-none_beyond f n m s t u far = and_left (nat_lt s.a 1000000) _ (le-ltb s.a 1000000 far) ∙ sym (and_left (nat_lt s.a 1000000) _ (le-ltb s.a 1000000 far))
+none_beyond e f n m s t u far = and_left (nat_lt s.a 1000000) _ (le-ltb s.a 1000000 far) ∙ sym (and_left (nat_lt s.a 1000000) _ (le-ltb s.a 1000000 far))
 
--- the round began and isn't past
-pub same_inside : (f n m : ℕ) (s : Slot) (t u : Bool) → s.a < rounds → s.a ≤ n → m ≤ s.a + 2 → t ≡ u → slot_told f n s t ≡ ruled f m s u
+-- the round began and is kept
+pub same_inside : (e : FrameVersion) (f n m : ℕ) (s : Slot) (t u : Bool) → s.a < rounds → s.a ≤ n → is_kept e n s.a ≡ true
+    → is_kept e m s.a ≡ true → t ≡ u → slot_told e f n s t ≡ ruled e f m s u
 unfolding rounds
-same_inside f n m s t u small begun recent same =
-    ap₂ (λ (x y : Bool). nat_lt s.a 1000000 && (x && (is_slot_in f s.a s && y))) (le-leb s.a n begun) same
-    ∙ sym (ap (λ (x : Bool). nat_lt s.a 1000000 && (x && (is_slot_in f s.a s && u))) (le-leb m (s.a + 2) recent))
+same_inside e f n m s t u small begun now later same =
+    ap₂ (λ (x y : Bool). nat_lt s.a 1000000 && (x && (is_kept e n s.a && (is_slot_in f s.a s && y)))) (le-leb s.a n begun) same
+    ∙ ap (λ (x : Bool). nat_lt s.a 1000000 && (x && (is_slot_in f s.a s && u))) (now ∙ sym later)
 
 -- the round takes nothing
 and_nothing : (a b c d : Bool) → d ≡ false → (a && (b && (c && d))) ≡ false
 and_nothing a b c d none = and_right a _ (and_right b _ (and_right c d none))
 
-pub ruled_nothing : (f m : ℕ) (s : Slot) (u : Bool) → u ≡ false → ruled f m s u ≡ false
-ruled_nothing f m s u none = and_nothing (nat_lt s.a rounds) (nat_le m (s.a + 2)) (is_slot_in f s.a s) u none
+pub ruled_nothing : (e : FrameVersion) (f m : ℕ) (s : Slot) (u : Bool) → u ≡ false → ruled e f m s u ≡ false
+ruled_nothing e f m s u none = and_nothing (nat_lt s.a rounds) (is_kept e m s.a) (is_slot_in f s.a s) u none
 
-pub ruled_past : (f m : ℕ) (s : Slot) (u : Bool) → s.a + 2 < m → ruled f m s u ≡ false
-ruled_past f m s u past = and_right (nat_lt s.a rounds) _ (and_left (nat_le m (s.a + 2)) _ (lt-leb m (s.a + 2) past))
+pub ruled_past : (e : FrameVersion) (f m : ℕ) (s : Slot) (u : Bool) → is_kept e m s.a ≡ false → ruled e f m s u ≡ false
+ruled_past e f m s u past = and_right (nat_lt s.a rounds) _ (and_left (is_kept e m s.a) _ past)
 
-pub told_nothing : (f n : ℕ) (s : Slot) (t : Bool) → t ≡ false → slot_told f n s t ≡ false
-told_nothing f n s t none = and_nothing (nat_lt s.a 1000000) (nat_le s.a n) (is_slot_in f s.a s) t none
+pub told_nothing : (e : FrameVersion) (f n : ℕ) (s : Slot) (t : Bool) → t ≡ false → slot_told e f n s t ≡ false
+told_nothing e f n s t none = and_right (nat_lt s.a 1000000) _ (and_nothing (nat_le s.a n) (is_kept e n s.a) (is_slot_in f s.a s) t none)
 
-pub told_ahead : (f n : ℕ) (s : Slot) (t : Bool) → n < s.a → slot_told f n s t ≡ false
-told_ahead f n s t ahead = and_right (nat_lt s.a 1000000) _ (and_left (nat_le s.a n) _ (lt-leb s.a n ahead))
+pub told_past : (e : FrameVersion) (f n : ℕ) (s : Slot) (t : Bool) → is_kept e n s.a ≡ false → slot_told e f n s t ≡ false
+told_past e f n s t past = and_right (nat_lt s.a 1000000) _ (and_right (nat_le s.a n) _ (and_left (is_kept e n s.a) _ past))
 
--- there is no box of a round that is past
-pub past_box : {V : Type 0} (b : Boxes V) (k : ℕ) → 3 ≤ k → box_at b k ≡ None
-past_box b k far =
-    ap (λ (t : Bool). if t then b.current else if k == 1 then b.last else if k == 2 then b.oldest else None) (ne_eqb k 0 (λ e. omega (arith, e, far)))
-    ∙ (ap (λ (t : Bool). if t then b.last else if k == 2 then b.oldest else None) (ne_eqb k 1 (λ e. omega (arith, e, far)))
-    ∙ ap (λ (t : Bool). if t then b.oldest else None) (ne_eqb k 2 (λ e. omega (arith, e, far))))
+pub told_ahead : (e : FrameVersion) (f n : ℕ) (s : Slot) (t : Bool) → n < s.a → slot_told e f n s t ≡ false
+told_ahead e f n s t ahead = and_right (nat_lt s.a 1000000) _ (and_left (nat_le s.a n) _ (lt-leb s.a n ahead))
 
 -- ---- the words of round 1,000,000, which there isn't: it hears nothing
 
@@ -154,21 +153,20 @@ module _ {V : Type 0} (stands : V → Desk → List Word → Type 0) (v : RoundR
         ap (λ (u : List Word). v.opens (round_desk v seat s.a) u s) (not_ahead v laws seat session s.a w m ahead).1 ∙ laws.opens_first (round_desk v seat s.a) s
 
     pub opens_is : (w : List Word) (b : Boxes V) (s : Slot) → AreProper (ordered v) seat w → BoxesStand stands v seat (current v seat w) (λ a. round_words v seat a w) b
-        → opens_round shown (last_attempt v seat.numbers) (current v seat w) b s ≡ round_opens v seat w s
+        → opens_round shown seat.mode.version (last_attempt v seat.numbers) (current v seat w) b s ≡ round_opens v seat w s
     opens_is w b s m boxes =
         let n : ℕ = current v seat w in
+        let e = seat.mode.version in
         elim (cases_lt s.a rounds) [
-          | inr far ↦ none_beyond (last_attempt v seat.numbers) n n s _ _ far
+          | inr far ↦ none_beyond e (last_attempt v seat.numbers) n n s _ _ far
           | inl small ↦ elim (cases_lt n s.a) [
-            | inl ahead ↦ told_ahead (last_attempt v seat.numbers) n s _ ahead ∙ sym (ruled_nothing (last_attempt v seat.numbers) n s _ (nothing_ahead w s m ahead))
-            | inr begun ↦ elim (cases_lt (s.a + 2) n) [
-              | inl past ↦
-                  told_nothing (last_attempt v seat.numbers) n s _ (ap (λ (o : Option V). opens_in shown o s) (past_box b (n - s.a) (omega (arith, past))))
-                  ∙ sym (ruled_past (last_attempt v seat.numbers) n s _ past)
-              | inr recent ↦
-                  same_inside (last_attempt v seat.numbers) n n s _ _ small begun recent
+            | inl ahead ↦ told_ahead e (last_attempt v seat.numbers) n s _ ahead ∙ sym (ruled_nothing e (last_attempt v seat.numbers) n s _ (nothing_ahead w s m ahead))
+            | inr begun ↦ elim (cases_Bool (is_kept e n s.a)) [
+              | inr past ↦ told_past e (last_attempt v seat.numbers) n s _ past ∙ sym (ruled_past e (last_attempt v seat.numbers) n s _ past)
+              | inl kept ↦
+                  same_inside e (last_attempt v seat.numbers) n n s _ _ small begun kept kept
                   (stood_opens (box_at b (n - s.a)) (round_desk v seat s.a) (round_words v seat s.a w) s
-                  (boxes s.a (n - s.a) (omega (arith, begun)) (omega (arith, begun, recent)) small))
+                  (boxes s.a (n - s.a) (omega (arith, begun)) kept small))
             ]
           ]
         ]
@@ -181,7 +179,7 @@ module _ {V : Type 0} (stands : V → Desk → List Word → Type 0) (v : RoundR
         elim (cases_lt (current v seat w) rounds) [
           | inl small ↦
               stood_spent b.current (round_desk v seat (current v seat w)) (round_words v seat (current v seat w) w)
-              (boxes (current v seat w) 0 (omega arith) (omega arith) small)
+              (boxes (current v seat w) 0 (omega arith) (kept_near seat.mode.version _ _ (omega arith)) small)
           | inr full ↦
               none_there b.current (begun ∙ and_left (nat_lt (current v seat w) rounds) _ (le-ltb (current v seat w) rounds full))
               ∙ sym (subst (λ (a : ℕ). v.spent (round_desk v seat a) (round_words v seat a w) ≡ false) (sym (full_is v laws seat session w full)) (full_not_spent v seat laws w session m))
@@ -199,7 +197,7 @@ module _ {V : Type 0} (stands : V → Desk → List Word → Type 0) (v : RoundR
         elim (cases_lt (current v seat w) rounds) [
           | inl small ↦
               stood_vector b.current (round_desk v seat (current v seat w)) (round_words v seat (current v seat w) w)
-              (boxes (current v seat w) 0 (omega arith) (omega arith) small)
+              (boxes (current v seat w) 0 (omega arith) (kept_near seat.mode.version _ _ (omega arith)) small)
           | inr full ↦
               let n : ℕ = current v seat w in
               let same = full_is v laws seat session w full in
@@ -214,12 +212,13 @@ module _ {V : Type 0} (stands : V → Desk → List Word → Type 0) (v : RoundR
 
     pub before_vector : (w : List Word) (b : Boxes V) (n : ℕ) → n ≡ current v seat w
         → BoxesStand stands v seat (current v seat w) (λ a. round_words v seat a w) b
-        → (if nat_lt 0 n then vector_by_box shown b.last else None) ≡ last_complete v seat n w
+        → (if nat_lt 0 n then vector_by_box shown (box_at b 1) else None) ≡ last_complete v seat n w
     before_vector w b zero same boxes = refl
     before_vector w b (suc n) same boxes =
         let few = complete_small v seat rounds w in
-        ap (λ (t : Bool). if t then vector_by_box shown b.last else None) (lt-ltb 0 (suc n) (omega arith))
-        ∙ stood_vector b.last (round_desk v seat n) (round_words v seat n w) (boxes n 1 (omega (arith, same)) (omega arith) (omega (arith, same, few)))
+        ap (λ (t : Bool). if t then vector_by_box shown (box_at b 1) else None) (lt-ltb 0 (suc n) (omega arith))
+        ∙ stood_vector (box_at b 1) (round_desk v seat n) (round_words v seat n w)
+        (boxes n 1 (omega (arith, same)) (kept_near seat.mode.version _ n (omega (arith, same))) (omega (arith, same, few)))
 
     pub last_is : (w : List Word) (b : Boxes V) → AreProper (ordered v) seat w → is_some b.current ≡ has_begun v seat w
         → BoxesStand stands v seat (current v seat w) (λ a. round_words v seat a w) b → last_in shown (current v seat w) b ≡ last_vector v seat w
@@ -233,7 +232,8 @@ module _ {V : Type 0} (stands : V → Desk → List Word → Type 0) (v : RoundR
       record {
         opens = λ s.
             ap (λ (t : Bool). if s.class == 1 then true else t)
-            (ap₂ (λ (f n : ℕ). opens_round shown f n x.boxes s) seated.last h.completed ∙ opens_is seat session w x.boxes s seated.met h.boxes);
+            (ap (λ (e : FrameVersion). opens_round shown e x.place.last x.completed x.boxes s) seated.version
+            ∙ ap₂ (λ (f n : ℕ). opens_round shown seat.mode.version f n x.boxes s) seated.last h.completed ∙ opens_is seat session w x.boxes s seated.met h.boxes);
         completed = h.completed;
         base = λ o l. base_is x.ledger (delivered_ids w) (log_now v seat w) o h.ledger (let most = session.most in omega (arith, l, most));
         next_number = seated.inputs;

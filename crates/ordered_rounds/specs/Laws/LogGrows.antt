@@ -3,13 +3,14 @@
 use Rattle.std.specs.Prelude.{◌≡◌, ℕ, zero, suc, ◌+◌, ◌<◌, ◌≤◌, Bool, true, false, ◌==◌, ◌&&◌, nat_lt, if◌then◌else◌, List, [], ◌∷◌, ◌++◌, length, Option, Some, None, MatchOption, unwrap_or, refl}
 use Rattle.std.specs.List.{list_any, AllByRecursion}
 use Rattle.std.proofs.Common.{sym, ◌∙◌, ap, subst, inl, inr, arith}
-use Rattle.std.proofs.lemmas.Bool.{cases_order, and_parts, or_cases, or_parts, or_left, or_right, not-true, not-false, eqb-true, eq-eqb, ltb-true, ltb-false, leb-false, both_ways, false_from_ne_true}
+use Rattle.std.proofs.lemmas.Bool.{cases_order, and_right, and_parts, or_cases, or_parts, or_left, or_right, not-true, not-false, eqb-true, eq-eqb, ltb-true, ltb-false, leb-false, both_ways, false_from_ne_true}
 use Rattle.std.proofs.lemmas.Map.Steps.{le-length_from_below}
 use Rattle.ritas_base.specs.declared.slot.Slot.{Slot}
 use Rattle.ritas_base.specs.declared.id.Id.{Id}
 use Rattle.ritas_base.specs.Numbers.{Numbers}
 use Rattle.ritas_base.specs.Slots.{command_slot}
 use Rattle.ritas_base.specs.SlotLaws.{right_command}
+use Rattle.ritas_base.specs.Versions.{has_past}
 use Rattle.ritas_base.specs.SlotOrder.{is_slot, same_slot}
 use Rattle.layer_api.specs.Words.{Word, Ask, Hear, is_heard}
 use Rattle.layer_api.specs.Service.{Seat, is_past, is_ahead, MayHear, AreProper, AreDistinct, AreHeard, AreRecent, Appends, IsPart, IsBase, has_id}
@@ -240,7 +241,8 @@ module _ (v : RoundRules) (seat : Seat) where
   not_past c w x proper none =
       let near = base_near c w x.origin proper in
       let low = without_above w x.origin x.num none in
-      false_from_ne_true _ (λ e. let l = ltb-true (x.num + 64) (base (c ∷ w) x.origin) e in omega (arith, near, low, l))
+      and_right (has_past seat.mode.version) _
+      (false_from_ne_true _ (λ e. let l = ltb-true (x.num + 64) (base (c ∷ w) x.origin) e in omega (arith, near, low, l)))
 
   -- a command slot isn't past after the word that hears it
   pub command_recent : (s : Slot) (x : List ℕ) (w : List Word) → (s.class == 1) ≡ true → AreProper (ordered v) seat (Hear s x ∷ w)

@@ -1,19 +1,21 @@
 -- The laws of a single value of atomic broadcast, from those of its rounds.
-use Rattle.std.specs.Prelude.{◌≡◌, ℕ, suc, ◌+◌, ◌≤◌, Bool, true, false, ◌==◌, nat_le, nat_lt, if◌then◌else◌, List, ◌∷◌, Some, None, refl}
+use Rattle.std.specs.Prelude.{◌≡◌, ℕ, suc, ◌+◌, Bool, true, false, ◌==◌, ◌&&◌, nat_lt, if◌then◌else◌, List, ◌∷◌, Some, None, refl}
 use Rattle.std.proofs.Common.{sym, ◌∙◌, ap, subst, inl, inr, arith}
-use Rattle.std.proofs.lemmas.Bool.{and_parts, and_from, cond-true, cond-false, cases_Bool, cases_order, eqb-true, le-leb, le-ltb, ltb-false}
+use Rattle.std.proofs.lemmas.Bool.{and_parts, and_from, cond-true, cases_Bool, cases_order, eqb-true}
 use Rattle.std.proofs.lemmas.Option.{none-some}
 use Rattle.ritas_base.specs.declared.slot.Slot.{Slot}
 use Rattle.ritas_base.specs.declared.id.Id.{Id}
 use Rattle.ritas_base.specs.Slots.{is_atomic, has_class}
+use Rattle.ritas_base.specs.Versions.{has_past}
 use Rattle.ordered_rounds.specs.Laws.Roots.{atomic_root}
 use Rattle.layer_api.specs.Words.{Word, Hear, asked}
 use Rattle.layer_api.specs.Service.{Seat, Instance, Decision, Spent, Undecided, Decided, Orders, purpose_of, AreProper, IsEndingOf, IsEnding, Meanings, is_past, WordLaws}
 use Rattle.layer_api.specs.Purpose.{Rounds}
 use Rattle.layer_api.specs.LogLengthLaws.{ids_fit}
 use Rattle.ordered_rounds.specs.Box.{RoundRules, RoundLaws, is_round_slot, instance_round}
-use Rattle.ordered_rounds.specs.Rounds.{round_scope, round_desk, log_below, complete_of, round_words, round_decides, round_opens, inside_of, rounds, ordered}
+use Rattle.ordered_rounds.specs.Rounds.{round_scope, round_desk, log_below, complete_of, round_words, round_decides, round_opens, is_kept, inside_of, rounds, ordered}
 use Rattle.ordered_rounds.specs.Laws.WordsMeet.{session_of, round_met, round_opened}
+use Rattle.ordered_rounds.specs.Laws.Kept.{kept_near, kept_unpast, unpast_kept}
 use Rattle.ordered_rounds.specs.Laws.LogsByRound.{complete_stays, log_complete, log_earlier, done_distinct}
 use Rattle.ordered_rounds.specs.Laws.RoundsStay.{spent_stay, inside_stay, opens_stay}
 use Rattle.ordered_rounds.specs.Laws.LogGrows.{least_is, base_stays, command_recent, done_grows, done_heard, done_nothing}
@@ -51,21 +53,27 @@ module _ (v : RoundRules) (laws : RoundLaws v) (seat : Seat) where
 module _ (v : RoundRules) (laws : RoundLaws v) (seat : Seat) where
   -- ---- what is open stays open
 
-  -- a round's slot that isn't past has a round of the last two before the current one, or of a later one
-  recent : (w : List Word) (s : Slot) → (s.class == 1) ≡ false → is_past (ordered v) seat w s ≡ false → complete_of v seat rounds w ≤ s.a + 2
-  recent w s other past =
-      ltb-false (s.a + 2) (complete_of v seat rounds w)
-      (sym (ap (λ (b : Bool). if b then nat_lt (s.a + 64) ((ordered v).base seat w s.origin) else nat_lt (s.a + 2) (complete_of v seat rounds w)) other) ∙ past)
+  -- whether a slot is past, where it is a command's or not
+  abbrev lies_past : List Word → Slot → Bool → Bool
+  lies_past w s command =
+      has_past seat.mode.version
+      && (if command then nat_lt (s.a + 64) ((ordered v).base seat w s.origin) else nat_lt (s.a + 2) (complete_of v seat rounds w))
 
-  -- an open slot of a round stays open where its round isn't past
-  round_opens_stays : (c : Word) (w : List Word) (s : Slot) → AreProper (ordered v) seat (c ∷ w) → complete_of v seat rounds (c ∷ w) ≤ s.a + 2
-      → round_opens v seat w s ≡ true → round_opens v seat (c ∷ w) s ≡ true
+  -- a round's slot that isn't past has a round that is kept
+  kept : (w : List Word) (s : Slot) → (s.class == 1) ≡ false → is_past (ordered v) seat w s ≡ false
+      → is_kept seat.mode.version (complete_of v seat rounds w) s.a ≡ true
+  kept w s other past =
+      kept_unpast seat.mode.version (complete_of v seat rounds w) s.a (sym (ap (lies_past w s) other) ∙ past)
+
+  -- an open slot of a round stays open where its round is kept
+  round_opens_stays : (c : Word) (w : List Word) (s : Slot) → AreProper (ordered v) seat (c ∷ w)
+      → is_kept seat.mode.version (complete_of v seat rounds (c ∷ w)) s.a ≡ true → round_opens v seat w s ≡ true → round_opens v seat (c ∷ w) s ≡ true
   round_opens_stays c w s proper l e =
       let x = and_parts (nat_lt s.a rounds) _ e in
-      let y = and_parts (nat_le (complete_of v seat rounds w) (s.a + 2)) _ x.1 in
+      let y = and_parts (is_kept seat.mode.version (complete_of v seat rounds w) s.a) _ x.1 in
       let z = and_parts (is_round_slot v (round_scope v seat.numbers s.a) s) _ y.1 in
       and_from (nat_lt s.a rounds) _ x.0
-      (and_from (nat_le (complete_of v seat rounds (c ∷ w)) (s.a + 2)) _ (le-leb (complete_of v seat rounds (c ∷ w)) (s.a + 2) l)
+      (and_from (is_kept seat.mode.version (complete_of v seat rounds (c ∷ w)) s.a) _ l
       (and_from (is_round_slot v (round_scope v seat.numbers s.a) s) _ z.0 (opens_stay v laws seat s.a c w proper s z.1)))
 
   -- what is open stays open, as long as its window isn't past
@@ -76,25 +84,25 @@ module _ (v : RoundRules) (laws : RoundLaws v) (seat : Seat) where
         | inl command ↦ ap (λ (b : Bool). if b then true else round_opens v seat (c ∷ w) s) command
         | inr other ↦
             ap (λ (b : Bool). if b then true else round_opens v seat (c ∷ w) s) other
-            ∙ round_opens_stays c w s proper (recent (c ∷ w) s other past) (round_opened v seat w s other e)
+            ∙ round_opens_stays c w s proper (kept (c ∷ w) s other past) (round_opened v seat w s other e)
       ]
 
   -- ---- what a word hears isn't past after it
 
   -- a word of the current round completes one round at most, and a word of an earlier one none
-  heard_count : (s : Slot) (x : List ℕ) (w : List Word) → AreProper (ordered v) seat (Hear s x ∷ w) → (s.class == 1) ≡ false
-      → complete_of v seat rounds (Hear s x ∷ w) ≤ s.a + 2
-  heard_count s x w proper other =
+  heard_kept : (s : Slot) (x : List ℕ) (w : List Word) → AreProper (ordered v) seat (Hear s x ∷ w) → (s.class == 1) ≡ false
+      → is_kept seat.mode.version (complete_of v seat rounds (Hear s x ∷ w)) s.a ≡ true
+  heard_kept s x w proper other =
       let session = session_of v seat w (Hear s x) proper.0 in
       elim (cases_Bool (s.a == complete_of v seat rounds w)) [
         | inl now ↦
             let e = eqb-true s.a (complete_of v seat rounds w) now in
             let l = rises v laws seat session (Hear s x) w proper in
-            omega (arith, e, l)
+            kept_near seat.mode.version _ s.a (omega (arith, e, l))
         | inr earlier ↦
             let same = (no_step v laws seat session s x w proper other earlier).same in
-            let l = (comes_to v laws seat session s x w proper other).recent in
-            omega (arith, same, l)
+            let k = (comes_to v laws seat session s x w proper other).kept in
+            ap (λ (n : ℕ). is_kept seat.mode.version n s.a) same ∙ k
       ]
 
   -- a slot isn't past after the word that hears it
@@ -103,7 +111,8 @@ module _ (v : RoundRules) (laws : RoundLaws v) (seat : Seat) where
       elim (cases_Bool (s.class == 1)) [
         | inl command ↦ command_recent v seat s x w command proper
         | inr other ↦
-            cond-false (s.class == 1) _ _ other ∙ le-ltb (s.a + 2) (complete_of v seat rounds (Hear s x ∷ w)) (heard_count s x w proper other)
+            ap (lies_past (Hear s x ∷ w) s) other
+            ∙ unpast_kept seat.mode.version (complete_of v seat rounds (Hear s x ∷ w)) s.a (heard_kept s x w proper other)
       ]
 
   -- ---- what is decided stays

@@ -1,5 +1,5 @@
 -- The words of each round meet the conditions of its box.
-use Rattle.std.specs.Prelude.{◌≡◌, ℕ, ◌+◌, ◌<◌, Bool, true, false, not, ◌==◌, nat_le, nat_lt, if◌then◌else◌, List, [], ◌∷◌, ◌++◌, Option, Some, None, refl}
+use Rattle.std.specs.Prelude.{◌≡◌, ℕ, ◌<◌, Bool, true, false, not, ◌==◌, nat_lt, if◌then◌else◌, List, [], ◌∷◌, ◌++◌, Option, Some, None, refl}
 use Rattle.std.specs.List.{AllByRecursion}
 use Rattle.std.proofs.Common.{sym, ◌∙◌, ap, subst, arith}
 use Rattle.std.proofs.lemmas.Bool.{and_parts, eqb-true, not-true}
@@ -21,7 +21,7 @@ use Rattle.layer_api.specs.FedLaws.{Stays, shortest_at}
 use Rattle.layer_api.specs.PartLaws.{part_heard, part_asked_still, Feeds, part_met}
 use Rattle.ordered_rounds.specs.Box.{RoundRules, is_round_slot, MayRound, AreRound}
 use Rattle.ordered_rounds.specs.Identifiers.{is_without}
-use Rattle.ordered_rounds.specs.Rounds.{delivered_ids, pending, proposal, round_scope, round_desk, is_of_round, first_ids, begins_with, round_asked, log_below, round_ask, round_words, complete_of, round_opens, rounds, ordered}
+use Rattle.ordered_rounds.specs.Rounds.{delivered_ids, pending, proposal, round_scope, round_desk, is_of_round, first_ids, begins_with, round_asked, log_below, round_ask, round_words, complete_of, round_opens, is_kept, rounds, ordered}
 use Rattle.ordered_rounds.specs.Laws.Ordered.{kept_all, proposal_some, proposal_is}
 
 -- ---- what a round is asked
@@ -120,7 +120,7 @@ module _ (v : RoundRules) (seat : Seat) where
       let u = and_parts (not (s.class == 1)) _ of in
       let same : s.a ≡ a = eqb-true s.a a u.1 in
       let o = and_parts (nat_lt s.a rounds) _ (round_opened w s (not-true (s.class == 1) u.0) h.is_open) in
-      let t = and_parts (nat_le (complete_of v seat rounds w) (s.a + 2)) _ o.1 in
+      let t = and_parts (is_kept seat.mode.version (complete_of v seat rounds w) s.a) _ o.1 in
       let q = and_parts (is_round_slot v (round_scope v seat.numbers s.a) s) _ t.1 in
       record {
         slot = subst (λ (b : ℕ). is_round_slot v (round_scope v seat.numbers b) s ≡ true) same q.0;

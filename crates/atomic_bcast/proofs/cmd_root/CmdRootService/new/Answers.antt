@@ -3,7 +3,7 @@ use Rattle.ordered_rounds.specs.Laws.EarlyCommands.{new_known, new_tight}
 use Rattle.atomic_bcast.proofs.cmd_root.CmdRootService.new.Goals as goal
 
 pub returns : goal.returns
-returns c = λ seat numbers me. record {
+returns c = λ seat numbers mode me. record {
   numbers = sym numbers;
   me = sym me;
   inputs = refl;
