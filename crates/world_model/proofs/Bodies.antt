@@ -1,5 +1,5 @@
 -- The bytes that a body begins with, and the item at the front of an inbox.
-use Rattle.std.proofs.Common.{◌≡◌, ◌≢◌, ℕ, ◌<◌, Bool, true, false, cond, ◌==◌, ◌&&◌, ◌||◌, Option, Some, None, is_some, Ok, List, [], ◌∷◌, length, slice_index, slice_index_or, refl, ◌∙◌, ap, ap₂, subst, arith}
+use Rattle.std.proofs.Common.{◌≡◌, ◌≢◌, ℕ, ◌<◌, Bool, true, false, cond, ◌==◌, ◌&&◌, ◌||◌, Option, Some, None, is_some, Ok, List, [], ◌∷◌, length, slice_index, slice_index_or, refl, ◌∙◌, ap, ap₂, subst}
 use Rattle.std.specs.List.{slice_get}
 use Rattle.std.proofs.lemmas.Option.{slice_get-get_or}
 use Rattle.ritas_base.specs.declared.item.Item.{Item}
@@ -12,7 +12,7 @@ use Rattle.ritas_base.specs.declared.slot.Slot.{Slot}
 use Rattle.ritas_base.specs.Slots.{by_echo, form_of}
 use Rattle.ritas_base.specs.Versions.{reliable_form}
 use Rattle.ritas_base.specs.Numbers.{Numbers, IsSession}
-use Rattle.frame_codec.specs.Body.{kind_byte, spelling, body_answer, is_of_form}
+use Rattle.frame_codec.specs.Body.{kind_byte, body_answer, is_of_form}
 use Rattle.ritas_base.specs.Bytes.{IsBytes}
 use Rattle.frame_codec.specs.Laws.{AnswersSpelled, AnswersGood}
 use Rattle.keyed_channel.specs.KeyRow.{KeyRow}
