@@ -94,7 +94,7 @@ module _ {V : Type 0} (stands : V → Desk → List Word → Type 0) (v : RoundR
     abbrev new_opens : Slot → Bool
     new_opens s = v.opens (round_desk v seat s.a) (round_words v seat s.a (c ∷ w)) s
 
-    -- the words of a round in the window, as after the word
+    -- the words of a round that began, as after the word
     words_later : (a : ℕ) → a ≤ n → a < rounds → (a ≡ n → is_some (round_ask v seat n w) ≡ true) → round_words v seat a (c ∷ w) ≡ heard_words v seat c w a
     words_later a l small asks =
         elim (cases_lt a n) [
@@ -104,7 +104,7 @@ module _ {V : Type 0} (stands : V → Desk → List Word → Type 0) (v : RoundR
               words_heard v laws seat session c w met a (subst (λ (k : ℕ). is_some (round_ask v seat k w) ≡ true) (sym same) (asks same))
         ]
 
-    -- what a box in the window takes
+    -- what a box that is kept takes
     box_near : (s : Slot) (t : Bool) → s.a < rounds → s.a ≤ n → is_kept seat.mode.version n s.a ≡ true → (s.a ≡ n → is_some (round_ask v seat n w) ≡ true)
         → (t ≡ old_opens s) ⊎ (t ≡ v.opens (round_desk v seat s.a) (heard_words v seat c w s.a) s)
         → (slot_told seat.mode.version (last_attempt v seat.numbers) n s t ≡ ruled seat.mode.version (last_attempt v seat.numbers) n s (old_opens s))
@@ -187,7 +187,7 @@ module _ {V : Type 0} (stands : V → Desk → List Word → Type 0) (v : RoundR
               (full_not_spent v seat laws w session met.1)))
         ]
 
-    -- the vector of a round in the window
+    -- the vector of a round that is kept
     vector_near : (a : ℕ) (o : Option V) → OneNear o (round_desk v seat a) (round_words v seat a w) (heard_words v seat c w a)
         → IsNearVector v laws seat session stands live shown shows c w met a o
     vector_near a None none = inl (stood_vector stands v laws live shown shows None (round_desk v seat a) (round_words v seat a w) none)

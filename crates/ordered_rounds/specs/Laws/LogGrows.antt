@@ -1,4 +1,4 @@
--- The identifier log of atomic broadcast grows by commands that were delivered and lie in the window, and each origin's base never
+-- The identifier log of atomic broadcast grows by commands that were delivered and are not past, and each origin's base never
 -- falls.
 use Rattle.std.specs.Prelude.{◌≡◌, ℕ, zero, suc, ◌+◌, ◌<◌, ◌≤◌, Bool, true, false, ◌==◌, ◌&&◌, nat_lt, if◌then◌else◌, List, [], ◌∷◌, ◌++◌, length, Option, Some, None, MatchOption, unwrap_or, refl}
 use Rattle.std.specs.List.{list_any, AllByRecursion}
