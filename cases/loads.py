@@ -127,7 +127,7 @@ class Load:
 
         self.serve_until(goes_on, lambda: f"while it lasted {self.lacks(self.commands)}")
 
-    def press(self, seconds: float, nodes: list, enough: int, width: int, most: float) -> None:
+    def press(self, seconds: float, nodes: list, enough: int, width: int, most: float = 1e6) -> None:
         """For so long no more than so many commands wait at these nodes at a time, and no more than `most` a second are handed in there.
 
         One doesn't wait any more once so many of these nodes have confirmed it.
