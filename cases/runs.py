@@ -90,7 +90,7 @@ class Run:
 
     def pairs(self) -> list:
         """Every two correct nodes, the one that connects first."""
-        return [(me, other) for me in self.correct for other in range(me)]
+        return [(me, other) for me in self.correct for other in self.correct if other < me]
 
     def press_until_cut(self, times: int) -> list:
         """Hands in commands, and more whenever the connection of every two nodes was cut again, so often. Nothing need be confirmed meanwhile.
