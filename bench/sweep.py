@@ -3,7 +3,7 @@
 It follows the rules of docs/PROTOCOL.md on plain sets and lists, without tags: what a schedule says of a frame is its sender, its
 receiver and its number. `Cluster.sweep` makes the events of sweeps until nothing is left, and `Replica.rows` are those of a replica's command log
 then. `Cluster.lengths` are those of the texts that are tagged on the way: each frame where it is made and where it is opened, and the entries of
-HASHES and of columns.
+HASHES and of columns. In versions 2 and 3 it is right only where nobody misses an INIT, as in sweeps, since it knows no WANT.
 """
 import hashlib
 import hmac
@@ -12,6 +12,7 @@ from collections import Counter
 from functools import lru_cache
 
 INIT, ECHO, READY, SEND, HASHES, COLUMN = range(1, 7)
+STEP = 5
 
 # commands and rounds are numbered below the first; a list has so many identifiers; the window of commands, and of rounds behind and ahead
 NUMBER_LIMIT, MOST_IDS = 1_000_000, 64
@@ -308,7 +309,8 @@ class Atomic:
                     while (o, self.bases[o]) in self.logged:
                         self.bases[o] += 1
                 self.completed += 1
-                self.rounds.pop(self.completed - ROUNDS_KEPT - 1, None)
+                if self.home.has_past:
+                    self.rounds.pop(self.completed - ROUNDS_KEPT - 1, None)
                 now = None
         if now is None and self.pending and self.completed < NUMBER_LIMIT:
             share, taken = MOST_IDS // self.home.n, []
@@ -321,6 +323,8 @@ class Atomic:
         return slot[0] == 1 or slot[1] in self.rounds and self.rounds[slot[1]].opens(slot)
 
     def past(self, slot):
+        if not self.home.has_past:
+            return False
         return slot[1] + COMMAND_WINDOW < self.bases[slot[5]] if slot[0] == 1 else slot[1] + ROUNDS_KEPT < self.completed
 
     def ahead(self, slot):
@@ -339,8 +343,8 @@ class Cast:
 
 
 class Replica:
-    def __init__(self, n, f, me, echo, master=bytes(32), session=0, root=6):
-        self.n, self.f, self.me, self.echo = n, f, me, echo
+    def __init__(self, n, f, me, echo, master=bytes(32), session=0, root=6, version=1):
+        self.n, self.f, self.me, self.echo, self.has_past = n, f, me, echo, version < 3
         self.session = struct.pack(">Q", session)
         self.coin = hmac.digest(master, b"\x53" + self.session + bytes([me]), "sha256")
         self.service = Atomic(self, Lists if root == 7 else Vector)
@@ -448,12 +452,12 @@ class Replica:
 class Cluster:
     """Replicas that are all correct, and the events so far, as the bytes of a schedule file."""
 
-    def __init__(self, n, f, echo, root=6):
-        self.n, self.f = n, f
-        self.replicas = [Replica(n, f, i, echo, root=root) for i in range(n)]
+    def __init__(self, n, f, echo, root=6, version=1):
+        self.n, self.f, self.version = n, f, version
+        self.replicas = [Replica(n, f, i, echo, root=root, version=version) for i in range(n)]
         self.passed = [[0] * n for _ in range(n)]
         self.file = bytearray(
-            b"RITS\x01" + bytes(8) + bytes([n, f, root, 1 if echo else 2]) + struct.pack(">I", 2**n - 1) + b"\x00" + bytes(32))
+            b"RITS" + bytes([version]) + bytes(8) + bytes([n, f, root, 1 if echo else 2]) + struct.pack(">I", 2**n - 1) + b"\x00" + bytes(32))
         self.events = 0
         self.frames = {}
 
@@ -475,10 +479,16 @@ class Cluster:
         self.file += b"\x04" + bytes([sender, to]) + struct.pack(">I", m)
         self.events += 1
         item = self.replicas[sender].made[to][m]
-        kind, _, value, _ = item
-        payload = 32 * self.n if kind == HASHES else 4 + 32 * len(value) if kind == COLUMN else len(value)
-        self.frames[21 + payload] = self.frames.get(21 + payload, 0) + 1
+        length = 21 + self.payload(*item[:3])
+        self.frames[length] = self.frames.get(length, 0) + 1
         return self.replicas[to].take(item)
+
+    def payload(self, kind, slot, value):
+        """How many bytes a message has behind its slot."""
+        if kind in (HASHES, COLUMN):
+            return 32 * self.n if kind == HASHES else 4 + 32 * len(value)
+        has_digest = self.version == 2 or self.version == 3 and slot[0] != STEP
+        return 32 if has_digest and kind in (ECHO, READY) else len(value)
 
     def lengths(self):
         """How many texts of each length are tagged."""
@@ -507,9 +517,9 @@ class Cluster:
         return bytes(self.file) + b"\x00"
 
 
-def cluster_events(n: int, f: int, echo: bool, root: int = 6):
+def cluster_events(n: int, f: int, echo: bool, root: int = 6, version: int = 1):
     """A cluster of this root service that is given one command."""
-    cluster = Cluster(n, f, echo, root)
+    cluster = Cluster(n, f, echo, root, version)
     cluster.command(0, 0, 0, b"")
     cluster.sweep()
     texts = [(1, bytes(length)) for length, count in cluster.lengths().items() for _ in range(count)]

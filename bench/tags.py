@@ -9,12 +9,16 @@ import subprocess
 import sys
 import tempfile
 
+HERE = os.path.dirname(os.path.abspath(__file__))
+sys.path.append(os.path.join(HERE, "..", "examples"))
+from serving import NEWEST_VERSION  # noqa: E402
+
 N, SESSION = 31, 0
+VERSIONS = range(1, NEWEST_VERSION + 1)
 MASTER = bytes(32)
 RUNS = 5
 # Times that are compared are taken by turns, so often.
 TURNS = 9
-HERE = os.path.dirname(os.path.abspath(__file__))
 
 
 def tag(key: bytes, text: bytes) -> bytes:

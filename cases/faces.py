@@ -3,11 +3,11 @@ import select
 import struct
 import threading
 
-from peers import ECHO, INIT, KIND_AT, ORIGIN_AT, PAYLOAD_AT, READY, Pieces, body_of, command_body, seal, vote
+from peers import CLASS_AT, ECHO, INIT, KIND_AT, ORIGIN_AT, PAYLOAD_AT, READY, Pieces, body_of, command_body, seal, vote
 
 SEND = 4
 COMMAND, VECT, VOTE = 1, 4, 5
-CLASS_AT, NUMBER_AT = 1, 2
+NUMBER_AT = 2
 # Its numbers of frames begin here, and its commands are those of a client that nobody else is.
 FIRST_NUMBER, CLIENT = 1_000_000, 99
 

@@ -55,19 +55,31 @@ class Load:
     def __init__(self, ports: dict, is_moving, patience: float, quiet: float):
         self.desks = {me: self.DESK(port) for me, port in ports.items()}
         self.commands, self.is_moving, self.patience, self.quiet = [], is_moving, patience, quiet
+        # Commands that no client hands in yet, for each node.
+        self.later = {me: [] for me in ports}
 
     @staticmethod
     def payload(place: int) -> bytes:
         return b"x" * (place % 50)
 
-    def add(self, count: int) -> list:
-        """So many new commands, for each node."""
+    def add(self, count: int, nodes=None) -> list:
+        """So many new commands, for each node; where some nodes are named, for these now and for the others later."""
         start = len(self.commands)
         added = [Command(1 + place % 5, place, self.payload(place)) for place in range(start, start + count)]
         self.commands += added
-        for desk in self.desks.values():
-            desk.ahead.extend(added)
+        for me, desk in self.desks.items():
+            (desk.ahead if nodes is None or me in nodes else self.later[me]).extend(added)
         return added
+
+    def hand_in_later(self) -> None:
+        """What was kept for later is handed in now."""
+        for me, desk in self.desks.items():
+            desk.ahead.extend(self.later[me])
+            self.later[me].clear()
+
+    def leave_out(self, me: int) -> None:
+        """A node is gone for good, and its client with it."""
+        self.desks.pop(me).link.socket.close()
 
     def step(self) -> None:
         for desk in self.desks.values():
@@ -114,6 +126,24 @@ class Load:
             return not waiting
 
         self.serve_until(goes_on, lambda: f"while it lasted {self.lacks(self.commands)}")
+
+    def press(self, seconds: float, nodes: list, enough: int, width: int, most: float = 1e6) -> None:
+        """For so long no more than so many commands wait at these nodes at a time, and no more than `most` a second are handed in there.
+
+        One doesn't wait any more once so many of these nodes have confirmed it.
+        """
+        since, count, waiting = time.monotonic(), 0, []
+
+        def is_over() -> bool:
+            nonlocal count
+            waiting[:] = [one for one in waiting if sum(one in self.desks[me].positions for me in nodes) < enough]
+            due = min(width - len(waiting), int((time.monotonic() - since) * most) + 1 - count)
+            if due > 0:
+                waiting.extend(self.add(due, nodes))
+                count += due
+            return time.monotonic() > since + seconds
+
+        self.serve_until(is_over, lambda: f"while it lasted {listed(waiting)} weren't confirmed")
 
     def missing(self, me: int, commands: list) -> list:
         """Those of these commands that a node hasn't confirmed."""

@@ -7,11 +7,11 @@ import struct
 import serving
 
 INIT, ECHO, READY = 1, 2, 3
-DIGESTS = 2
+STEP = 5
 TAG_BYTES, HEAD_BYTES = 32, 11
 NOTE, ACK, AGAIN = 0x4E, 1, 2
 NUMBER_AT = 3
-KIND_AT, ORIGIN_AT, PAYLOAD_AT = 0, 9, 10
+KIND_AT, CLASS_AT, ORIGIN_AT, PAYLOAD_AT = 0, 1, 9, 10
 
 
 def tag(key: bytes, text: bytes) -> bytes:
@@ -56,9 +56,10 @@ def request_to_resend(key: bytes, sender: int, receiver: int) -> bytes:
 
 
 def vote(kind: int, init: bytes, version: int = 1) -> bytes:
-    """The body of an ECHO or READY of an INIT, with its value, or in version 2 with the digest of that."""
+    """The body of an ECHO or READY of an INIT, with its value, or in version 2 with the digest of that. In version 3 a bit goes by its value."""
     value = init[PAYLOAD_AT:]
-    return bytes([kind]) + init[1:PAYLOAD_AT] + (hashlib.sha256(value).digest() if version == DIGESTS else value)
+    has_digest = version == 2 or version == 3 and init[CLASS_AT] != STEP
+    return bytes([kind]) + init[1:PAYLOAD_AT] + (hashlib.sha256(value).digest() if has_digest else value)
 
 
 def command_body(origin: int, number: int, client: int, request: int, payload: bytes) -> bytes:

@@ -1,4 +1,4 @@
-"""Four nodes of a session whose connections all go through a proxy, and the commands that are handed in at them, for one scenario of a script."""
+"""Nodes of a session, mostly four, whose connections all go through a proxy, and the commands that are handed in at them, for one scenario."""
 import argparse
 import os
 import random
@@ -19,6 +19,8 @@ N, F = 4, 1
 ENOUGH = N - F
 BEFORE, WHILE, AFTER = 4, 24, 24
 QUIET, STILL = 8, 1
+# After so many seconds it is a standstill, where commands were to be confirmed soon.
+SOON, STANDSTILL = 5, 20
 # Figures and the names of what is counted for each pair.
 TOTALS = {"resends": "resends", "ACKs": "acks", "AGAINs": "agains", "bytes": "bytes"}
 
@@ -26,8 +28,8 @@ TOTALS = {"resends": "resends", "ACKs": "acks", "AGAINs": "agains", "bytes": "by
 class Routed(serving.Session):
     """A session whose nodes find those of lesser numbers, which they connect with, at ports of a proxy."""
 
-    def __init__(self, vect: str, version: int, journal: bool, root: int):
-        super().__init__(N, F, vect, version, journal, root)
+    def __init__(self, n: int, f: int, vect: str, version: int, journal: bool, root: int):
+        super().__init__(n, f, vect, version, journal, root)
         self.doors, self.taken = {}, {*self.peers, *self.clients}
 
     def more_ports(self, count: int) -> list:
@@ -48,18 +50,18 @@ class Run:
 
     LOAD = Load
 
-    def __init__(self, name: str, options, count: int = N, vect: str = "echo", version: int = 1, journal: bool = False, root: int = 6):
+    def __init__(self, name: str, options, count: int = N, vect: str = "echo", version: int = 1, journal: bool = False, root: int = 6, n: int = N, f: int = F):
         self.name, self.lot = name, random.Random(f"{options.seed} {name}")
         self.folder = tempfile.mkdtemp(prefix=f"ritas-{name}-", dir=serving.MEMORY if journal else None)
-        self.session = Routed(vect, version, journal, root)
+        self.session = Routed(n, f, vect, version, journal, root)
         self.sights = Sights(self.session)
         self.proxy = Proxy(self.sights, self.lot)
-        self.correct, self.nodes, self.faces = list(range(count)), [], []
+        self.correct, self.nodes, self.faces, self.gone = list(range(count)), [], [], []
         self.proxy.start()
-        for pair in [(me, other) for me in range(N) for other in range(me)]:
+        for pair in [(me, other) for me in range(n) for other in range(me)]:
             [self.session.doors[pair]] = self.session.more_ports(1)
             self.proxy.open_door(pair, self.session.doors[pair], self.session.peers[pair[1]])
-        self.load, self.took, self.bound = None, None, options.bound
+        self.load, self.took, self.bound, self.soon = None, None, options.bound, options.soon
         self.cuts, self.behind = None, 0
 
     def start(self) -> None:
@@ -83,12 +85,12 @@ class Run:
         self.load.confirm_all(self.load.add(BEFORE))
         self.proxy.turn_to(weather)
 
-    def others(self, node: int) -> list:
-        return [me for me in self.correct if me != node]
+    def others(self, *nodes: int) -> list:
+        return [me for me in self.correct if me not in nodes]
 
     def pairs(self) -> list:
         """Every two correct nodes, the one that connects first."""
-        return [(me, other) for me in self.correct for other in range(me)]
+        return [(me, other) for me in self.correct for other in self.correct if other < me]
 
     def press_until_cut(self, times: int) -> list:
         """Hands in commands, and more whenever the connection of every two nodes was cut again, so often. Nothing need be confirmed meanwhile.
@@ -108,12 +110,42 @@ class Run:
         """How many commands one of these nodes hasn't confirmed by now."""
         self.behind = max(len(self.load.missing(node, self.load.commands)) for node in nodes)
 
+    def kill_for_good(self, *numbers: int) -> None:
+        """Kills nodes at once, which don't come back. All that follows is about the others."""
+        for node in [node for node in self.nodes if node.me in numbers]:
+            node.stop(at_once=True)
+            self.nodes.remove(node)
+            self.gone.append(node)
+            self.correct.remove(node.me)
+            self.load.leave_out(node.me)
+            self.proxy.say(f"killed {node.me}")
+
     def end(self) -> None:
         """Commands in fair weather. Each node must confirm these, and all that were handed in before."""
-        self.proxy.turn_to(Weather())
-        self.cuts = self.proxy.cuts.total()
+        self.clear_up()
         self.load.add(AFTER)
         self.took = self.load.confirm_all(self.load.commands)
+        self.compare()
+
+    def end_soon(self) -> None:
+        """Commands in fair weather, once all connections stand, which each node must confirm soon; and then all that were handed in before."""
+        self.clear_up()
+        self.await_links(len(self.pairs()))
+        self.load.patience = min(self.bound, STANDSTILL)
+        took = self.load.confirm_all(self.load.add(AFTER))
+        check(took <= self.soon, f"later commands were confirmed in {took:.1f} s, and not in {self.soon:g} s")
+        self.took, self.load.patience = took, self.bound
+        self.load.hand_in_later()
+        self.load.confirm_all(self.load.commands)
+        self.compare()
+
+    def clear_up(self) -> None:
+        """The weather is fair again."""
+        self.proxy.turn_to(Weather())
+        self.cuts = self.proxy.cuts.total()
+
+    def compare(self) -> None:
+        """Whether all has come, once and no more than once."""
         self.settle()
         self.connect_anew()
         self.settle()
@@ -151,7 +183,7 @@ class Run:
 
     def wrong(self, is_whole: bool) -> list:
         """What is wrong with what was recorded."""
-        return verdicts.all_of(self.nodes, self.load, self.sights, is_whole)
+        return verdicts.all_of(self.nodes, self.load, self.sights, is_whole, self.gone)
 
     def keep(self, wrong: str) -> None:
         """Writes what is known besides the records."""
@@ -210,19 +242,27 @@ def leave(*_) -> None:
     sys.exit(1)
 
 
-def options_of(names, description: str, of_sessions: bool = False) -> argparse.Namespace:
-    """The seed, the bound, what every session is to have where that may be said, and the scenarios that the words pick: all where none is picked."""
+def each_run(options):
+    """The scenarios that were picked, as often as was asked for: pairs of a name, and the options with the seed of that run."""
+    for seed in range(options.seed, options.seed + options.runs):
+        for name in options.scenarios:
+            yield name, argparse.Namespace(**{**vars(options), "seed": seed})
+
+
+def options_of(names, usual, description: str) -> argparse.Namespace:
+    """The seed, the bounds, what every session is to have where that is said, and the scenarios that the words pick, or else the usual ones."""
     signal.signal(signal.SIGTERM, leave)
     parser = argparse.ArgumentParser(description=description, allow_abbrev=False)
     parser.add_argument("--seed", type=int, default=1)
+    parser.add_argument("--runs", type=int, default=1, help="how often each scenario is run, each time with the next seed")
     parser.add_argument("--bound", type=float, default=90, help="seconds, for what is waited for")
-    if of_sessions:
-        parser.add_argument("--vect", choices=("echo", "reliable"), help="how VECTs go in every session, in place of what each scenario has")
-        parser.add_argument("--version", type=int, choices=(1, 2), help="of the frames of every session")
-        parser.add_argument("--root", type=int, choices=(6, 7), help="the root service of every session")
+    parser.add_argument("--soon", type=float, default=SOON, help="seconds in which commands are to be confirmed that come after nodes were killed")
+    parser.add_argument("--vect", choices=("echo", "reliable"), help="how VECTs go in every session, in place of what each scenario has")
+    parser.add_argument("--version", type=int, choices=(1, 2, 3), help="of every session")
+    parser.add_argument("--root", type=int, choices=(6, 7), help="the root service of every session")
     parser.add_argument("scenarios", nargs="*", metavar="SCENARIO", help=", ".join(names))
     options = parser.parse_args()
     if unknown := set(options.scenarios) - set(names):
         parser.error(f"no scenario {' '.join(sorted(unknown))}")
-    options.scenarios = options.scenarios or list(names)
+    options.scenarios = options.scenarios or list(usual)
     return options

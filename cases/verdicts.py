@@ -6,8 +6,8 @@ from peers import INIT, KIND_AT, PAYLOAD_AT, body_of
 from sights import Sights, seq_of
 
 
-def of_logs(logs: dict, load, is_whole: bool) -> list:
-    """The logs are fronts of one list, which has each command once and nothing that no client handed in, and where all was confirmed each has all."""
+def of_logs(logs: dict, load, whole) -> list:
+    """The logs are fronts of one list, which has each command once and nothing that no client handed in, and these nodes have all."""
     wrong = []
     if not serving.are_prefixes(list(logs.values())):
         wrong.append(f"two logs are apart: {first_apart(logs)}")
@@ -17,7 +17,7 @@ def of_logs(logs: dict, load, is_whole: bool) -> list:
             wrong.append(f"a command stands twice in the log of node {me}")
         if strange := sorted(set(commands) - set(load.commands)):
             wrong.append(f"the log of node {me} has {len(strange)} commands that nobody handed in at a correct one: {listed(strange)}")
-        if is_whole and (missing := sorted(set(load.commands) - set(commands))):
+        if me in whole and (missing := sorted(set(load.commands) - set(commands))):
             wrong.append(f"the log of node {me} lacks {len(missing)} commands: {listed(missing)}")
     return wrong
 
@@ -82,11 +82,18 @@ def of_frames(made: list, sight, is_whole: bool) -> list:
     return wrong
 
 
-def all_of(nodes: list, load, sights: Sights, is_whole: bool) -> list:
-    """What is wrong. Where `is_whole` all that was handed in was confirmed, and between these nodes nothing may be missing."""
+def log_of(record: bytes) -> list:
+    return serving.rows_of(serving.report_of(record))
+
+
+def all_of(nodes: list, load, sights: Sights, is_whole: bool, gone: list) -> list:
+    """What is wrong. Where `is_whole` all that was handed in was confirmed, and between these nodes nothing may be missing.
+
+    Of those that are gone for good the logs alone are compared.
+    """
     records = {node.me: node.record() for node in nodes}
-    logs = {me: serving.rows_of(serving.report_of(record)) for me, record in records.items()}
-    wrong = of_logs(logs, load, is_whole) + of_replies(logs, load)
+    logs = {me: log_of(record) for me, record in records.items()}
+    wrong = of_logs({**logs, **{node.me: log_of(node.record()) for node in gone}}, load, logs if is_whole else ()) + of_replies(logs, load)
     for me, record in records.items():
         made = frames_of(record, me)
         for pair, sight in sights.items():

@@ -46,13 +46,13 @@ class Holding(Weather):
 
 
 class Refusing(Weather):
-    """A node has no connection, and gets none."""
+    """Some nodes have no connection, and get none."""
 
-    def __init__(self, node: int):
-        self.node = node
+    def __init__(self, *nodes: int):
+        self.nodes = set(nodes)
 
     def refuses(self, pair: tuple) -> bool:
-        return self.node in pair
+        return not self.nodes.isdisjoint(pair)
 
 
 class Turn:

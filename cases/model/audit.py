@@ -50,7 +50,7 @@ class Audit:
 
     def collides(self, replica: Replica, item: Item) -> bool:
         """Whether an item brings a second message of a digest, or a second input of an entry."""
-        if item.kind not in ((SEND, INIT, VALUE) if self.session.version == 2 else (SEND,)):
+        if item.kind not in ((INIT, VALUE) if self.session.goes_by_digests(item.slot) else (SEND,)):
             return False
         its_digest = digest(item.value)
         found = self.messages.setdefault(its_digest, item.value) != item.value

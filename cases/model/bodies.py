@@ -17,8 +17,7 @@ CLASSES = {
     RELIABLE: (COMMAND,), ECHO_BROADCAST: (COMMAND,), BINARY: (STEP,), MULTIVALUED: (PROPOSAL, VECT, STEP),
     VECTOR: (VECTOR_PROPOSAL, PROPOSAL, VECT, STEP), **dict.fromkeys(ORDERED, (COMMAND, VECTOR_PROPOSAL, PROPOSAL, VECT, STEP)),
 }
-RELIABLE_KINDS = {1: (INIT, ECHO, READY), 2: (INIT, ECHO, READY, WANT, VALUE)}
-ECHO_KINDS = (SEND, HASHES, COLUMN)
+VALUE_KINDS, DIGEST_KINDS, ECHO_KINDS = (INIT, ECHO, READY), (INIT, ECHO, READY, WANT, VALUE), (SEND, HASHES, COLUMN)
 
 Identifier = tuple[int, int]
 
@@ -41,10 +40,15 @@ def read_body(session: Session, body: bytes) -> Optional[Body]:
     kind, slot, value = body[0], Slot(*struct.unpack(">BIBBBB", body[1:SLOT_END])), body[SLOT_END:]
     if not is_slot(session, slot):
         return None
-    kinds = ECHO_KINDS if session.goes_by_echo(slot) else RELIABLE_KINDS[session.version]
-    if kind not in kinds or not is_payload(session, kind, slot, value):
+    if kind not in kinds_at(session, slot) or not is_payload(session, kind, slot, value):
         return None
     return Body(kind, slot, value)
+
+
+def kinds_at(session: Session, slot: Slot) -> tuple[int, ...]:
+    if session.goes_by_echo(slot):
+        return ECHO_KINDS
+    return DIGEST_KINDS if session.goes_by_digests(slot) else VALUE_KINDS
 
 
 def is_slot(session: Session, slot: Slot) -> bool:
@@ -67,7 +71,7 @@ def is_payload(session: Session, kind: int, slot: Slot, payload: bytes) -> bool:
         return len(payload) == 32 * session.n
     if kind == COLUMN:
         return is_column(session, payload)
-    if kind == WANT or (session.version == 2 and kind in (ECHO, READY)):
+    if session.goes_by_digests(slot) and kind in (ECHO, READY, WANT):
         return len(payload) == DIGEST
     return is_value(session, slot, payload)
 

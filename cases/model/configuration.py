@@ -5,7 +5,7 @@ import re
 from dataclasses import dataclass
 from typing import Any
 
-from .session import ATOMIC, DIRECT, MOST_REPLICAS
+from .session import ATOMIC, DIRECT, MOST_REPLICAS, NEWEST_VERSION
 
 MOST_BYTES = 1_048_576
 MOST_U32, MOST_U64 = 2**32 - 1, 2**64 - 1
@@ -89,7 +89,7 @@ def request(text: str, n: int) -> tuple[int, int, int, bytes]:
 def value_of(job: str, name: str, text: str, values: dict[str, Any]) -> Any:
     n = values.get("n", 0)
     ranges = {
-        "ritas": (1, 2), "session": (0, MOST_U64), "n": (1, MOST_REPLICAS), "f": (0, (n - 1) // 3), "me": (0, n - 1),
+        "ritas": (1, NEWEST_VERSION), "session": (0, MOST_U64), "n": (1, MOST_REPLICAS), "f": (0, (n - 1) // 3), "me": (0, n - 1),
         "root": (1 if job == "drive" else ATOMIC, DIRECT), "start": (0, MOST_U64), "commands": (0, MOST_COMMANDS), "copies": (1, n),
         "limit": (1, MOST_U64), "until": (1 if job == "watch" else 0, MOST_U32),
     }

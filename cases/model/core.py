@@ -70,7 +70,10 @@ class Core:
             return True
         if item.kind == HASHES and item.slot.origin != self.keys.me:
             return True
-        return self.service.is_past(item.slot) or self.service.is_ahead(item.slot)
+        return self.is_past(item.slot) or self.service.is_ahead(item.slot)
+
+    def is_past(self, slot: Slot) -> bool:
+        return self.session.has_past and self.service.is_past(slot)
 
     def is_open(self, item: Item) -> bool:
         return self.service.is_open(item.slot) and (item.kind != COLUMN or self.broadcast(item.slot).is_ready_for(item))
@@ -84,10 +87,13 @@ class Core:
 
     def broadcast(self, slot: Slot) -> Broadcast:
         if slot not in self.broadcasts:
-            digests = self.session.version == 2
-            form = EchoBroadcast if self.session.goes_by_echo(slot) else DigestBroadcast if digests else ReliableBroadcast
-            self.broadcasts[slot] = form(self.session, self.keys, slot)
+            self.broadcasts[slot] = self.form(slot)(self.session, self.keys, slot)
         return self.broadcasts[slot]
+
+    def form(self, slot: Slot) -> type[Broadcast]:
+        if self.session.goes_by_echo(slot):
+            return EchoBroadcast
+        return DigestBroadcast if self.session.goes_by_digests(slot) else ReliableBroadcast
 
     def hold(self, item: Item) -> str:
         bytes_then = self.held_bytes[item.sender] + body_length(item)
@@ -124,7 +130,7 @@ class Core:
         for peer in range(self.session.n):
             kept = []
             for item in self.held[peer]:
-                if self.service.is_past(item.slot):
+                if self.is_past(item.slot):
                     self.let_go(item)
                 elif self.is_open(item):
                     self.let_go(item)

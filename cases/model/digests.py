@@ -1,4 +1,4 @@
-"""Reliable broadcast, in which ECHO and READY carry the SHA-256 of the value: version 2 of frames.
+"""Reliable broadcast, in which ECHO and READY carry the SHA-256 of the value: version 2, and version 3 but for steps.
 
 Bracha, Asynchronous Byzantine Agreement Protocols (1987), with votes on digests: WANT asks for the value of one, and VALUE gives it.
 """

@@ -1,4 +1,4 @@
-"""Reliable broadcast, in which ECHO and READY carry the value: version 1 of frames.
+"""Reliable broadcast, in which ECHO and READY carry the value: version 1, and the steps of version 3.
 
 Bracha, Asynchronous Byzantine Agreement Protocols (1987), in the form of Moniz, Neves, Correia, Veríssimo, RITAS (IEEE TDSC 2011): a replica echoes
 on INIT alone.

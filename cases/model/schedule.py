@@ -6,7 +6,7 @@ from dataclasses import dataclass
 from typing import Optional
 
 from .keys import Keys, deal
-from .session import DIRECT, MOST_REPLICAS, Session, members
+from .session import DIRECT, MOST_REPLICAS, NEWEST_VERSION, Session, members
 from .world import Event, Frame, Input, Pass, Sealed, Turn
 
 MOST_BYTES = 67_108_864
@@ -67,7 +67,7 @@ class Reader:
         if self.bytes(4) != MAGIC:
             raise FileFault("magic", 0)
         version = self.number(1)
-        if version not in (1, 2):
+        if not 1 <= version <= NEWEST_VERSION:
             raise FileFault("version", 4)
         number = self.number(8)
         n = self.header_field(1, lambda n: 1 <= n <= MOST_REPLICAS)

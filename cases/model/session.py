@@ -15,6 +15,7 @@ NUMBERS = 1_000_000  # command numbers and rounds are below it
 MOST_BINARY_ROUNDS = 200
 COMMAND_WINDOW = 64
 ROUNDS_BEHIND, ROUNDS_AHEAD = 2, 4
+NEWEST_VERSION = 3
 
 RELIABLE, ECHO_BROADCAST, BINARY, MULTIVALUED, VECTOR, ATOMIC, DIRECT = range(1, 8)  # root services
 ORDERED = ATOMIC, DIRECT  # those that put commands in one order
@@ -31,7 +32,7 @@ class Session:
     f: int
     root: int
     echo_vects: bool
-    version: int  # of frames
+    version: int
 
     @cached_property
     def quorum(self) -> int:
@@ -68,6 +69,16 @@ class Session:
         if slot.class_ == COMMAND:
             return self.root == ECHO_BROADCAST
         return slot.class_ == VECT and self.echo_vects
+
+    def goes_by_digests(self, slot: Slot) -> bool:
+        """Whether the slot's broadcast is reliable broadcast by digests. A bit is shorter than its digest, so in version 3 it goes by itself."""
+        has_digests = self.version == 2 or (self.version == 3 and slot.class_ != STEP)
+        return has_digests and not self.goes_by_echo(slot)
+
+    @property
+    def has_past(self) -> bool:
+        """Whether what lies far enough behind is past."""
+        return self.version < 3
 
 
 class Slot(NamedTuple):
