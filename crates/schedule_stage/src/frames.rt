@@ -55,7 +55,8 @@ pub(crate) fn thrown(
     ensures is { IfOk result (λ bytes. bytes ≡ thrown version from to rest.now) }
     ensures short { IfOk result (λ bytes. length bytes < 2 ^ 16) }
 {
-    let mut bytes = Vec::from_slice(alloc, &[version.byte(), from, to, 0, 0, 0, 0, 0, 0, 0, 0, 255])?;
+    let first = version.byte();
+    let mut bytes = Vec::from_slice(alloc, &[first, from, to, 0, 0, 0, 0, 0, 0, 0, 0, 255])?;
     bytes.extend_from_slice(rest)?;
     Ok(Bytes::from_vec(bytes))
 }
