@@ -13,12 +13,7 @@ use vector_consensus::{Vc, VcRoot};
 
 // The service of a session's one replica and of this root service, which is handed a value and hears what it
 // says. It promises nothing, so that what calls it has a short proof.
-fn alone<S: Service>(
-    rt: &impl Abort,
-    alloc: Global,
-    root: u8,
-    value: &[u8],
-) -> Result<S, Mem> {
+fn alone<S: Service>(rt: &impl Abort, alloc: Global, root: u8, value: &[u8]) -> Result<S, Mem> {
     let p = Params::new(1, 0).expect(rt, "numbers");
     let mode = Mode::new(root, Vect::Reliable).expect(rt, "mode");
     let mut service = S::new(alloc, &p, &mode, 0)?;
