@@ -75,8 +75,23 @@ impl LazyFrame {
         }
     }
 
-    // How many bytes it has.
-    fn len(&self) -> usize
+    /// The same frame once more, which shares the body and the key. The code computes no tag here; no clause says so. The one error is want of memory,
+    /// where too many share them already.
+    pub fn share(&self) -> Result<LazyFrame, Mem>
+        ensures { IfOk result (λ frame. frame ≡ self.now) }
+    {
+        Ok(LazyFrame {
+            version: self.version,
+            from: self.from,
+            to: self.to,
+            seq: self.seq,
+            body: self.body.clone()?,
+            key: self.key.clone()?,
+        })
+    }
+
+    /// How many bytes it has. The code computes no tag here; no clause says so.
+    pub fn len(&self) -> usize
         ensures is { result ≡ length self.now }
         ensures long { frame_overhead ≤ result }
     {

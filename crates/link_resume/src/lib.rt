@@ -3,9 +3,9 @@
 //! ```rust
 //! use link_resume::Resume;
 //!
-//! let mut resume = Resume::new(alloc, 4)?;
-//! resume.keep(alloc, 1, 0, b"a frame")?;
-//! resume.keep(alloc, 1, 1, b"the next one")?;
+//! let mut resume = Resume::new(alloc, 4, most_kept(version))?;
+//! resume.keep(1, 0, &frame)?;
+//! resume.keep(1, 1, &the_next_one)?;
 //! resume.acked(1, 0);
 //! // what goes out again over a new connection to peer 1
 //! assert_eq!(rt; resume.count(1), 1);
@@ -22,9 +22,11 @@
 //! frame is its number: whatever the order of acknowledgements, one takes steps in the logarithm of how many are kept.
 #![tactic(auto)]
 
+mod batch;
 mod kept;
 mod lane;
 mod resume;
 
-pub use kept::{KeepFault, Kept};
+pub use batch::Batch;
+pub use kept::{KeepFault, Kept, most_kept};
 pub use resume::Resume;
