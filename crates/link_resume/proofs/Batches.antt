@@ -1,20 +1,20 @@
 -- Frames by their numbers, and batches of them.
-use Rattle.std.specs.Prelude.{◌≡◌, ℕ, suc, ◌<◌, ◌≤◌, nat_le, Bool, true, false, not, cond, List, [], ◌∷◌, ◌++◌, filter, length, slice_index_or, Option, Some, None, refl}
+use Rattle.std.specs.Prelude.{◌≡◌, ℕ, suc, max, ◌<◌, ◌≤◌, nat_le, Bool, true, false, not, cond, List, [], ◌∷◌, ◌++◌, filter, length, slice_index_or, Option, Some, None, refl}
 use Rattle.std.specs.declared.cmp.Ordering.{Ordering}
 use Rattle.std.specs.declared.cmp.Ordering.TheVariants.{Less, Equal, Greater}
-use Rattle.std.specs.declared.ops.Bound.TheVariants.{Included, Unbounded}
+use Rattle.std.specs.declared.ops.Bound.TheVariants.{Unbounded}
 use Rattle.std.specs.List.{All}
 use Rattle.std.specs.Map.{values_of}
-use Rattle.std.specs.BTreeMap.Range.{range_contains, entries_between}
-use Rattle.std.specs.Ordering.{MatchOrdering, nat_cmp, is_le, is_lt}
+use Rattle.std.specs.BTreeMap.Range.{is_from_start, is_past_end, range_contains, entries_between}
+use Rattle.std.specs.Ordering.{MatchOrdering, nat_cmp, is_lt}
 use Rattle.std.proofs.Common.{sym, ◌∙◌, ap, arith}
-use Rattle.std.proofs.lemmas.Bool.{cond-true, cond-false, and_parts, and_from, leb-true, false_from_ne_true, both_ways}
+use Rattle.std.proofs.lemmas.Bool.{cond-true, cond-false, and_parts, and_from, leb-true, ltb-true, false_from_ne_true, both_ways}
 use Rattle.std.proofs.lemmas.Cmp.{ranked}
 use Rattle.std.proofs.lemmas.List.{append-nil}
 use Rattle.std.proofs.Math.Seq.{append_snoc}
 use Rattle.link_resume.specs.declared.kept.Kept.{Kept}
-use Rattle.link_resume.specs.Lanes.{StandByNumber}
-use Rattle.link_resume.specs.Lists.{is_between, between, joins_batch, bytes_with, batch_behind, last_seq, last_number}
+use Rattle.link_resume.specs.Lanes.{StandByNumber, start_behind, end_at}
+use Rattle.link_resume.specs.Lists.{is_behind, is_between, between, joins_batch, bytes_with, batch_behind, last_seq, last_number}
 
 -- ---- the newest
 
@@ -28,10 +28,10 @@ last_number-push (x ∷ xs) k = ap (λ (n : ℕ). Some n) (last_seq-push x.seq x
 
 -- ---- those that are looked at
 
-at_most : (a b : ℕ) (r : Ordering) → MatchOrdering r (a < b) (a ≡ b) (b < a) → a ≤ b → is_le r ≡ true
-at_most a b Less m low = refl
-at_most a b Equal m low = refl
-at_most a b Greater m low = absurd (omega (arith, m, low))
+below : (a b : ℕ) (r : Ordering) → MatchOrdering r (a < b) (a ≡ b) (b < a) → a < b → is_lt r ≡ true
+below a b Less m low = refl
+below a b Equal m low = absurd (omega (arith, m, low))
+below a b Greater m low = absurd (omega (arith, m, low))
 
 not_below : (a b : ℕ) (r : Ordering) → MatchOrdering r (a < b) (a ≡ b) (b < a) → b ≤ a → is_lt r ≡ false
 not_below a b Less m high = absurd (omega (arith, m, high))
@@ -52,49 +52,57 @@ others_fail p q (e ∷ es) all =
     pass_if p e (filter q es) es (q e) (all 0 e (omega arith)) (others_fail p q es (λ i d within. all (suc i) d (omega (arith, within))))
 
 -- between two places
-in_places : (from last first behind : ℕ) (e : ℕ × Kept) → e.0 ≡ e.1.seq → first ≤ from → last ≤ behind → is_between from last e.1 ≡ true
-    → range_contains nat_cmp (Included first) (Included behind) e.0 ≡ true
-in_places from last first behind e at low high passes =
-    let parts = and_parts (nat_le from e.1.seq) (nat_le e.1.seq last) passes in
-    let above = leb-true from e.1.seq parts.0 in
-    let below = leb-true e.1.seq last parts.1 in
-    and_from _ _ (at_most first e.0 (nat_cmp first e.0) (ranked first e.0 (nat_cmp first e.0) refl) (omega (arith, at, low, above)))
-    (ap not (not_below behind e.0 (nat_cmp behind e.0) (ranked behind e.0 (nat_cmp behind e.0) refl) (omega (arith, at, high, below))))
+starts_behind : (after : Option ℕ) (e : ℕ × Kept) → e.0 ≡ e.1.seq → is_behind after e.1 ≡ true → is_from_start nat_cmp (start_behind after) e.0 ≡ true
+starts_behind None e at behind = refl
+starts_behind (Some seq) e at behind =
+    below seq e.0 (nat_cmp seq e.0) (ranked seq e.0 (nat_cmp seq e.0) refl) (omega (arith, at, ltb-true seq e.1.seq behind))
 
-pub by_places : (from last first behind : ℕ) (es : List (ℕ × Kept)) → StandByNumber es → first ≤ from → last ≤ behind
-    → between from last (values_of (entries_between nat_cmp (Included first) (Included behind) es)) ≡ between from last (values_of es)
-by_places from last first behind es by low high =
-    others_fail (is_between from last) (λ e. range_contains nat_cmp (Included first) (Included behind) e.0) es
-    (λ i d within. in_places from last first behind (slice_index_or es i d) (by i d within) low high)
+ends_at : (after : Option ℕ) (last : ℕ) (e : ℕ × Kept) → e.0 ≡ e.1.seq → e.1.seq ≤ last → is_past_end nat_cmp (end_at after last) e.0 ≡ false
+ends_at None last e at high = not_below last e.0 (nat_cmp last e.0) (ranked last e.0 (nat_cmp last e.0) refl) (omega (arith, at, high))
+ends_at (Some seq) last e at high =
+    let top = max seq last in
+    not_below top e.0 (nat_cmp top e.0) (ranked top e.0 (nat_cmp top e.0) refl) (omega (arith, at, high))
 
-pub by_any : (from last : ℕ) (es : List (ℕ × Kept))
-    → between from last (values_of (entries_between nat_cmp Unbounded Unbounded es)) ≡ between from last (values_of es)
-by_any from last es = others_fail (is_between from last) (λ e. range_contains nat_cmp Unbounded Unbounded e.0) es (λ i d within passes. refl)
+in_places : (after : Option ℕ) (last : ℕ) (e : ℕ × Kept) → e.0 ≡ e.1.seq → is_between after last e.1 ≡ true
+    → range_contains nat_cmp (start_behind after) (end_at after last) e.0 ≡ true
+in_places after last e at passes =
+    let parts = and_parts (is_behind after e.1) (nat_le e.1.seq last) passes in
+    and_from _ _ (starts_behind after e at parts.0) (ap not (ends_at after last e at (leb-true e.1.seq last parts.1)))
+
+pub by_places : (after : Option ℕ) (last : ℕ) (es : List (ℕ × Kept)) → StandByNumber es
+    → between after last (values_of (entries_between nat_cmp (start_behind after) (end_at after last) es)) ≡ between after last (values_of es)
+by_places after last es by =
+    others_fail (is_between after last) (λ e. range_contains nat_cmp (start_behind after) (end_at after last) e.0) es
+    (λ i d within. in_places after last (slice_index_or es i d) (by i d within))
+
+pub by_any : (after : Option ℕ) (last : ℕ) (es : List (ℕ × Kept))
+    → between after last (values_of (entries_between nat_cmp Unbounded Unbounded es)) ≡ between after last (values_of es)
+by_any after last es = others_fail (is_between after last) (λ e. range_contains nat_cmp Unbounded Unbounded e.0) es (λ i d within passes. refl)
 
 -- ---- the next of a batch
 
 -- a frame with another number isn't of it
-pub next_other : (given : Option ℕ) (from last : ℕ) (x : ℕ × Kept) (xs all : List (ℕ × Kept)) → all ≡ x ∷ xs → is_between from last x.1 ≡ false
-    → batch_behind given (between from last (values_of xs)) ≡ batch_behind given (between from last (values_of all))
-next_other given from last x xs all is fails =
-    rw is (sym (ap (batch_behind given) (cond-false (is_between from last x.1) (x.1 ∷ between from last (values_of xs)) (between from last (values_of xs)) fails)))
+pub next_other : (given : Option ℕ) (after : Option ℕ) (last : ℕ) (x : ℕ × Kept) (xs all : List (ℕ × Kept)) → all ≡ x ∷ xs → is_between after last x.1 ≡ false
+    → batch_behind given (between after last (values_of xs)) ≡ batch_behind given (between after last (values_of all))
+next_other given after last x xs all is fails =
+    rw is (sym (ap (batch_behind given) (cond-false (is_between after last x.1) (x.1 ∷ between after last (values_of xs)) (between after last (values_of xs)) fails)))
 
 -- one that doesn't join is the end of it
-pub next_full : (given : Option ℕ) (from last size : ℕ) (x : ℕ × Kept) (xs all : List (ℕ × Kept)) → all ≡ x ∷ xs → is_between from last x.1 ≡ true
-    → size ≡ length x.1.frame → joins_batch given size ≡ false → batch_behind given (between from last (values_of all)) ≡ []
-next_full given from last size x xs all is passes long full =
-    let rest = between from last (values_of xs) in
-    rw is (ap (batch_behind given) (cond-true (is_between from last x.1) (x.1 ∷ rest) rest passes)
+pub next_full : (given after : Option ℕ) (last size : ℕ) (x : ℕ × Kept) (xs all : List (ℕ × Kept)) → all ≡ x ∷ xs → is_between after last x.1 ≡ true
+    → size ≡ length x.1.frame → joins_batch given size ≡ false → batch_behind given (between after last (values_of all)) ≡ []
+next_full given after last size x xs all is passes long full =
+    let rest = between after last (values_of xs) in
+    rw is (ap (batch_behind given) (cond-true (is_between after last x.1) (x.1 ∷ rest) rest passes)
     ∙ cond-false (joins_batch given (length x.1.frame)) (x.1 ∷ batch_behind (Some (bytes_with given (length x.1.frame))) rest) []
     (ap (joins_batch given) (sym long) ∙ full))
 
 -- and one that does is given
-pub next_given : (given : Option ℕ) (from last size bytes : ℕ) (x : ℕ × Kept) (xs all : List (ℕ × Kept)) → all ≡ x ∷ xs → is_between from last x.1 ≡ true
+pub next_given : (given after : Option ℕ) (last size bytes : ℕ) (x : ℕ × Kept) (xs all : List (ℕ × Kept)) → all ≡ x ∷ xs → is_between after last x.1 ≡ true
     → size ≡ length x.1.frame → joins_batch given size ≡ true → bytes ≡ bytes_with given size
-    → batch_behind given (between from last (values_of all)) ≡ x.1 ∷ batch_behind (Some bytes) (between from last (values_of xs))
-next_given given from last size bytes x xs all is passes long joins sum =
-    let rest = between from last (values_of xs) in
-    rw is (ap (batch_behind given) (cond-true (is_between from last x.1) (x.1 ∷ rest) rest passes)
+    → batch_behind given (between after last (values_of all)) ≡ x.1 ∷ batch_behind (Some bytes) (between after last (values_of xs))
+next_given given after last size bytes x xs all is passes long joins sum =
+    let rest = between after last (values_of xs) in
+    rw is (ap (batch_behind given) (cond-true (is_between after last x.1) (x.1 ∷ rest) rest passes)
     ∙ (cond-true (joins_batch given (length x.1.frame)) (x.1 ∷ batch_behind (Some (bytes_with given (length x.1.frame))) rest) [] (ap (joins_batch given) (sym long) ∙ joins)
     ∙ ap (λ (n : ℕ). x.1 ∷ batch_behind (Some n) rest) (sym (sum ∙ ap (bytes_with given) long))))
 

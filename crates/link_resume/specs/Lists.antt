@@ -1,5 +1,5 @@
 -- Frames that are kept: one list for each peer, each in the order in which its frames were kept.
-use Rattle.std.specs.Prelude.{◌≡◌, ℕ, ◌+◌, ◌==◌, ◌&&◌, nat_le, not, Bool, true, false, List, [], ◌∷◌, ◌++◌, filter, slice_index_or, slice_set, length, sum_by, Option, Some, None, if◌then◌else◌}
+use Rattle.std.specs.Prelude.{◌≡◌, ℕ, ◌+◌, ◌==◌, ◌&&◌, nat_le, nat_lt, not, Bool, true, false, List, [], ◌∷◌, ◌++◌, filter, slice_index_or, slice_set, length, sum_by, Option, Some, None, if◌then◌else◌}
 use Rattle.ritas_base.specs.declared.mode.FrameVersion.{FrameVersion}
 use Rattle.ritas_base.specs.declared.mode.FrameVersion.TheVariants.{One, Two, Three}
 use Rattle.link_resume.specs.declared.kept.Kept.{Kept}
@@ -74,13 +74,18 @@ with_room k peer size = with_list k peer (room_for k.limit size (kept_for k.list
 
 -- ---- batches
 
--- whether a number lies between two, or is one of them
-abbrev pub is_between : ℕ → ℕ → Kept → Bool
-is_between from last k = nat_le from k.seq && nat_le k.seq last
+-- whether a frame has a greater number than another one, if there is another
+abbrev pub is_behind : Option ℕ → Kept → Bool
+is_behind None k = true
+is_behind (Some seq) k = nat_lt seq k.seq
+
+-- and none greater than the last one
+abbrev pub is_between : Option ℕ → ℕ → Kept → Bool
+is_between after last k = is_behind after k && nat_le k.seq last
 
 -- the frames with such numbers
-abbrev pub between : ℕ → ℕ → List Kept → List Kept
-between from last kept = filter (is_between from last) kept
+abbrev pub between : Option ℕ → ℕ → List Kept → List Kept
+between after last kept = filter (is_between after last) kept
 
 -- a batch has at most so many bytes, or one frame
 abbrev pub most_batch_bytes : ℕ

@@ -31,9 +31,9 @@ for_two = record { limit = most_kept Two; lists = (kept ∷ []) ∷ (kept ∷ ne
 others_row : (with_room for_two 1 8388606).lists ≡ (kept ∷ []) ∷ (newer ∷ []) ∷ []
 others_row = refl
 
--- those with numbers from one to another
-between_rows : (between 4 4 (kept ∷ newer ∷ []) ≡ kept ∷ []) × (between 5 9 (kept ∷ newer ∷ []) ≡ newer ∷ [])
-    × (between 5 4 (kept ∷ newer ∷ []) ≡ [])
+-- those with numbers up to one, those behind one, and none where there are none between
+between_rows : (between None 4 (kept ∷ newer ∷ []) ≡ kept ∷ []) × (between (Some 4) 9 (kept ∷ newer ∷ []) ≡ newer ∷ [])
+    × (between (Some 5) 9 (kept ∷ newer ∷ []) ≡ [])
 between_rows = (refl, refl, refl)
 
 -- the first frame is in a batch however long it is, and another where they have 262,144 bytes together and no more

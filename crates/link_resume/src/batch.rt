@@ -2,7 +2,7 @@
 
 ghost use Rattle.std.specs.Prelude.{◌≡◌, true, [], ◌∷◌, MatchOption};
 ghost use Rattle.std.specs.Map.{values_of};
-ghost use Rattle.link_resume.specs.Lists.{is_between, between, batch, joins_batch, bytes_with};
+ghost use Rattle.link_resume.specs.Lists.{is_behind, is_between, between, batch, joins_batch, bytes_with};
 
 use crate::kept::Kept;
 use std::collections::btree_map::Range;
@@ -15,8 +15,8 @@ const MOST_BYTES: u64 = 262_144;
 #[derive(Drop)]
 pub struct Batch<'a> {
     kept: Range<'a, u128, Kept>,
-    // The numbers that a frame of it may have.
-    from: u64,
+    // Its frames have greater numbers than this one, if there is one, and none greater than the last one.
+    after: Option<u64>,
     last: u64,
     // How many bytes those have that were given.
     given: Option<u64>,
@@ -30,14 +30,24 @@ impl<'a> Model for Batch<'a> {
 
     ghost Value = { List Kept };
 
-    ghost view = { λ b. batch_behind b.given (between b.from b.last (values_of b.kept)) };
+    ghost view = { λ b. batch_behind b.given (between b.after b.last (values_of b.kept)) };
 }
 
-// Whether the number of a frame lies between two, or is one of them.
-fn is_between(from: u64, last: u64, kept: &Kept) -> bool
-    ensures { result ≡ is_between from last kept.now }
+// Whether a frame has a greater number than another one, if there is another.
+fn is_behind(after: Option<u64>, kept: &Kept) -> bool
+    ensures { result ≡ is_behind after kept.now }
 {
-    from <= kept.seq && kept.seq <= last
+    match after {
+        Some(seq) => seq < kept.seq,
+        None => true,
+    }
+}
+
+// And none greater than the last one.
+fn is_between(after: Option<u64>, last: u64, kept: &Kept) -> bool
+    ensures { result ≡ is_between after last kept.now }
+{
+    is_behind(after, kept) && kept.seq <= last
 }
 
 // Whether a frame of so many bytes is in a batch behind others that have so many, if there are any.
@@ -62,13 +72,13 @@ fn bytes_with(given: Option<u64>, size: u64) -> u64
 }
 
 impl<'a> Batch<'a> {
-    /// The batch at the front of those of these that have numbers from one to another.
-    pub(crate) fn new(kept: Range<'a, u128, Kept>, from: u64, last: u64) -> Batch<'a>
-        ensures { result ≡ batch (between from last (values_of kept.entry)) }
+    /// The batch at the front of those of these that have such numbers.
+    pub(crate) fn new(kept: Range<'a, u128, Kept>, after: Option<u64>, last: u64) -> Batch<'a>
+        ensures { result ≡ batch (between after last (values_of kept.entry)) }
     {
         Batch {
             kept,
-            from,
+            after,
             last,
             given: None,
         }
@@ -79,7 +89,7 @@ impl<'a> Batch<'a> {
         ensures { MatchOption result (self.old ≡ []) (λ k. self.old ≡ k.now ∷ self.new) }
     {
         while let Some((_, kept)) = self.kept.next() {
-            if is_between(self.from, self.last, kept) {
+            if is_between(self.after, self.last, kept) {
                 let size = kept.frame.len() as u64;
                 if !joins_batch(self.given, size) {
                     return None;

@@ -5,7 +5,8 @@ ghost use Rattle.std.specs.BTreeMap.{keys, values};
 ghost use Rattle.std.specs.List.{slice_get};
 ghost use Rattle.std.specs.Map.{values_of};
 ghost use Rattle.link_resume.specs.declared.kept.Kept.{Kept};
-ghost use Rattle.link_resume.specs.Lists.{bytes_in, IsOver, all_but, between, is_between, last_number, may_have, room_for, room_within};
+ghost use Rattle.link_resume.specs.Lanes.{start_behind, end_at};
+ghost use Rattle.link_resume.specs.Lists.{bytes_in, IsOver, all_but, between, last_number, may_have, room_for, room_within};
 
 use crate::kept::{KeepFault, Kept};
 use keyed_channel::LazyFrame;
@@ -63,6 +64,26 @@ fn place_behind(kept: &BTreeMap<u128, Kept>, number: u128) -> Option<u128>
         Some((last, _)) if number <= *last => last.checked_add(1),
         Some(_) => Some(number),
         None => Some(number),
+    }
+}
+
+// Behind the place of a number, if there is one.
+fn start(after: Option<u64>) -> Bound<u128>
+    ensures { result ≡ start_behind after }
+{
+    match after {
+        Some(seq) => Bound::Excluded(u128::from(seq)),
+        None => Bound::Unbounded,
+    }
+}
+
+// Up to the place of the last number, or of the other where this is greater.
+fn end(after: Option<u64>, last: u64) -> Bound<u128>
+    ensures { result ≡ end_at after last }
+{
+    match after {
+        Some(seq) => Bound::Included(u128::from(seq.max(last))),
+        None => Bound::Included(u128::from(last)),
     }
 }
 
@@ -126,15 +147,13 @@ impl Lane {
         }
     }
 
-    /// Frames of which those with numbers from one to another are all that have such numbers, the oldest first. Where places are numbers
-    /// there are few others, and those before them aren't gone through.
-    pub(crate) fn span(&self, from: u64, last: u64) -> Range<'_, u128, Kept>
-        ensures { between from last (values_of result) ≡ between from last self.now }
+    /// Frames of which those behind a number, up to the last one, are all that are so, the oldest first. Where places are numbers there
+    /// are no others, and those before them aren't gone through.
+    pub(crate) fn span(&self, after: Option<u64>, last: u64) -> Range<'_, u128, Kept>
+        ensures { between after last (values_of result) ≡ between after last self.now }
     {
         if self.by_number {
-            let first = Bound::Included(u128::from(from));
-            let behind = Bound::Included(u128::from(from.max(last)));
-            self.kept.range((first, behind))
+            self.kept.range((start(after), end(after, last)))
         } else {
             self.kept
                 .range((Bound::<u128>::Unbounded, Bound::<u128>::Unbounded))

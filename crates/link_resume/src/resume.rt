@@ -124,22 +124,23 @@ impl Resume {
         self.lanes[peer as usize].newest()
     }
 
-    /// The batch at the front of what is kept for a peer under numbers from one to another: as many frames as have at most 262,144 bytes
-    /// together, and at least one. It takes no memory. Where the numbers ascend, those before them aren't gone through.
-    pub fn batch(&self, peer: u8, from: u64, last: u64) -> Batch<'_>
+    /// The batch at the front of what is kept for a peer under greater numbers than another one, if there is another, up to the last one:
+    /// as many frames as have at most 262,144 bytes together, and at least one. It takes no memory. Where the numbers ascend, the frames
+    /// before those aren't gone through.
+    pub fn batch(&self, peer: u8, after: Option<u64>, last: u64) -> Batch<'_>
         requires { peer < length self.now.lists }
-        ensures { result ≡ batch (between from last (kept_for self.now.lists peer)) }
+        ensures { result ≡ batch (between after last (kept_for self.now.lists peer)) }
     {
-        Batch::new(self.lanes[peer as usize].span(from, last), from, last)
+        Batch::new(self.lanes[peer as usize].span(after, last), after, last)
     }
 
     /// The number of the last frame of such a batch, if there is one. It takes no memory.
-    pub fn last_of_batch(&self, peer: u8, from: u64, last: u64) -> Option<u64>
+    pub fn last_of_batch(&self, peer: u8, after: Option<u64>, last: u64) -> Option<u64>
         requires { peer < length self.now.lists }
-        ensures { result ≡ last_number (batch (between from last (kept_for self.now.lists peer))) }
+        ensures { result ≡ last_number (batch (between after last (kept_for self.now.lists peer))) }
     {
         let mut number = None;
-        let mut batch = self.batch(peer, from, last);
+        let mut batch = self.batch(peer, after, last);
         while let Some(kept) = batch.next_frame() {
             number = Some(kept.seq);
         }
