@@ -6,6 +6,7 @@ use Rattle.std.proofs.lemmas.Bool.{eqb-true, eq-eqb, ne_eqb}
 use Rattle.ritas_base.specs.declared.slot.Slot.{Slot}
 use Rattle.instance_tree.specs.SlotMaps.{SlotMap, is_numbered_below, is_numbered_command, is_command_below}
 use Rattle.instance_tree.specs.Keys.{KeyedSlot, TakesSpot, TakesSpotOut}
+use Rattle.instance_tree.specs.declared.span.Span.{Span}
 use Rattle.instance_tree.specs.Places.{map_at, joined_map, ArePlaced, ChangesAt, cell_of, place_in_origin}
 use Rattle.instance_tree.proofs.Joined.{changes_to, set_changes, set_others, first_changes, found_there, joined_takes, joined_keeps, placed_taken, nothing_past}
 
@@ -19,38 +20,38 @@ both_and false b h k = absurd cc
 
 -- ---- the places of one origin's slots
 
-pub command_place : (s : Slot) → s.class ≡ 1 → place_in_origin s ≡ 0
-command_place s is = ap (λ (b : Bool). cond b 0 (suc (cell_of s))) (eq-eqb s.class 1 is)
+pub command_place : (span : Span) (s : Slot) → s.class ≡ 1 → place_in_origin span s ≡ 0
+command_place span s is = ap (λ (b : Bool). cond b 0 (suc (cell_of span s))) (eq-eqb s.class 1 is)
 
-pub other_place : (s : Slot) (i : ℕ) → s.class ≢ 1 → i ≡ cell_of s → place_in_origin s ≡ suc i
-other_place s i other is = ap (λ (b : Bool). cond b 0 (suc (cell_of s))) (ne_eqb s.class 1 other) ∙ ap suc (sym is)
+pub other_place : (span : Span) (s : Slot) (i : ℕ) → s.class ≢ 1 → i ≡ cell_of span s → place_in_origin span s ≡ suc i
+other_place span s i other is = ap (λ (b : Bool). cond b 0 (suc (cell_of span s))) (ne_eqb s.class 1 other) ∙ ap suc (sym is)
 
 first_only : (b : Bool) (i : ℕ) → cond b 0 (suc i) ≡ 0 → b ≡ true
 first_only true i h = refl
 first_only false i h = absurd (omega (arith, h))
 
 -- what stands in the first place is of a command
-pub first_is_command : (s : Slot) → place_in_origin s ≡ 0 → (s.class == 1) ≡ true
-first_is_command s at = first_only (s.class == 1) (cell_of s) at
+pub first_is_command : (span : Span) (s : Slot) → place_in_origin span s ≡ 0 → (s.class == 1) ≡ true
+first_is_command span s at = first_only (s.class == 1) (cell_of span s) at
 
-pub commands_take : (below : ℕ) (m after : SlotMap ℕ) (ms : List (SlotMap ℕ)) (whole : SlotMap ℕ) (r : Option KeyedSlot) → ArePlaced place_in_origin (m ∷ ms)
+pub commands_take : (span : Span) (below : ℕ) (m after : SlotMap ℕ) (ms : List (SlotMap ℕ)) (whole : SlotMap ℕ) (r : Option KeyedSlot) → ArePlaced (place_in_origin span) (m ∷ ms)
     → joined_map (m ∷ ms) ≡ whole → TakesSpotOut (is_numbered_below below) m after r → TakesSpotOut (is_numbered_command below) whole (joined_map (after ∷ ms)) r
-commands_take below m after ms whole (Some spot) placed is takes =
-    let command = first_is_command spot.0 (placed 0 spot.0 spot.1 takes.had) in
+commands_take span below m after ms whole (Some spot) placed is takes =
+    let command = first_is_command span spot.0 (placed 0 spot.0 spot.1 takes.had) in
     subst (λ (n : SlotMap ℕ). TakesSpot (is_numbered_command below) n (joined_map (after ∷ ms)) spot) is
-    (joined_takes place_in_origin (is_numbered_below below) (is_numbered_command below) (m ∷ ms) (after ∷ ms) 0 spot placed takes (first_changes m after ms).others
+    (joined_takes (place_in_origin span) (is_numbered_below below) (is_numbered_command below) (m ∷ ms) (after ∷ ms) 0 spot placed takes (first_changes m after ms).others
     (both_and (spot.0.class == 1) (nat_lt spot.0.a below) command takes.passes))
-commands_take below m after ms whole None placed is takes = (
-  joined_keeps place_in_origin (m ∷ ms) (after ∷ ms) 0 placed takes.0 (first_changes m after ms).others ∙ is,
+commands_take span below m after ms whole None placed is takes = (
+  joined_keeps (place_in_origin span) (m ∷ ms) (after ∷ ms) 0 placed takes.0 (first_changes m after ms).others ∙ is,
   λ s passes.
       let parts = and_both (s.class == 1) (nat_lt s.a below) passes in
-      sym (found_there place_in_origin (m ∷ ms) whole 0 s placed is (command_place s (eqb-true _ _ parts.0))) ∙ takes.1 s parts.1,
+      sym (found_there (place_in_origin span) (m ∷ ms) whole 0 s placed is (command_place span s (eqb-true _ _ parts.0))) ∙ takes.1 s parts.1,
 )
 
-pub commands_placed : (below : ℕ) (m after : SlotMap ℕ) (ms : List (SlotMap ℕ)) (r : Option KeyedSlot) → ArePlaced place_in_origin (m ∷ ms)
-    → TakesSpotOut (is_numbered_below below) m after r → ArePlaced place_in_origin (after ∷ ms)
-commands_placed below m after ms r placed takes =
-    placed_taken place_in_origin (is_numbered_below below) (m ∷ ms) (after ∷ ms) 0 r placed takes (first_changes m after ms).others
+pub commands_placed : (span : Span) (below : ℕ) (m after : SlotMap ℕ) (ms : List (SlotMap ℕ)) (r : Option KeyedSlot) → ArePlaced (place_in_origin span) (m ∷ ms)
+    → TakesSpotOut (is_numbered_below below) m after r → ArePlaced (place_in_origin span) (after ∷ ms)
+commands_placed span below m after ms r placed takes =
+    placed_taken (place_in_origin span) (is_numbered_below below) (m ∷ ms) (after ∷ ms) 0 r placed takes (first_changes m after ms).others
 
 -- ---- all origins
 

@@ -3,6 +3,9 @@ use Rattle.std.specs.Prelude.{◌≡◌, ◌≢◌, ℕ, suc, ◌+◌, ◌*◌, 
 use Rattle.std.specs.List.{flat_map}
 use Rattle.std.specs.FinMap.{empty, get, entries, from_entries}
 use Rattle.ritas_base.specs.declared.slot.Slot.{Slot}
+use Rattle.ritas_base.specs.Limits.{number_limit}
+use Rattle.instance_tree.specs.declared.span.Span.{Span}
+use Rattle.instance_tree.specs.declared.span.Span.TheVariants.{Window, Session}
 use Rattle.instance_tree.specs.SlotMaps.{SlotMap}
 
 -- the map at a place, which is empty past the end
@@ -38,10 +41,12 @@ place_in_ring width s = s.a % width
 abbrev pub cell_kind : Slot → ℕ
 cell_kind s = if s.class == 5 then 4 + s.step % 4 else s.class % 4
 
--- the place of a slot among those of its origin that aren't of commands: by try, binary round, class and step, and round
-abbrev pub cell_of : Slot → ℕ
-cell_of s = ((s.attempt % 4 * 4 + s.bround % 4) * 8 + cell_kind s) * 16 + s.a % 16
+-- the place of a slot among those of its origin that aren't of commands: by try, binary round, class and step, and round; or for
+-- a session, by round, class and step
+abbrev pub cell_of : Span → Slot → ℕ
+cell_of Window s = ((s.attempt % 4 * 4 + s.bround % 4) * 8 + cell_kind s) * 16 + s.a % 16
+cell_of Session s = s.a % number_limit * 8 + cell_kind s
 
 -- the place of a slot among those of its origin: commands stand in the first map, and the others in their cells
-abbrev pub place_in_origin : Slot → ℕ
-place_in_origin s = if s.class == 1 then 0 else suc (cell_of s)
+abbrev pub place_in_origin : Span → Slot → ℕ
+place_in_origin span s = if s.class == 1 then 0 else suc (cell_of span s)

@@ -6,9 +6,9 @@ ghost use Rattle.std.specs.FinMap.{empty, get, insert};
 ghost use Rattle.instance_tree.specs.SlotMaps.{is_before_round, is_command_below};
 ghost use Rattle.instance_tree.specs.Keys.{TakesOut};
 
-use crate::origin::ROUNDS;
 use crate::origins::Origins;
 use crate::ring::Ring;
+use crate::span::Span;
 use ritas_base::{Mem, Slot};
 use std::alloc::Global;
 use std::marker::Model;
@@ -40,12 +40,12 @@ impl Model for Keys {
 
 impl Keys {
     /// No slot has a key. It takes no memory.
-    pub(crate) fn new(alloc: Global) -> Keys
+    pub(crate) fn new(alloc: Global, span: Span) -> Keys
         ensures { result ≡ empty }
     {
         Keys {
-            slots: Origins::new(alloc),
-            rounds: Ring::new(alloc, ROUNDS),
+            slots: Origins::new(alloc, span),
+            rounds: Ring::new(alloc, span.rounds()),
         }
     }
 

@@ -1,10 +1,10 @@
 //! The broadcasts of a replica, or other values, each at its slot: a map from slots.
 //!
 //! ```rust
-//! use instance_tree::Tree;
+//! use instance_tree::{Span, Tree};
 //! use ritas_base::Slot;
 //!
-//! let mut tree = Tree::new(alloc);
+//! let mut tree = Tree::new(alloc, Span::Window);
 //! tree.make(alloc, Slot::command(2, 7), "seventh")?;
 //! assert!(rt; tree.find(&Slot::command(2, 7)).is_some());
 //! // the commands of origin 2 that are numbered below 8 go
@@ -20,10 +20,12 @@
 //! there is. Values stand in an arena (`slab`), so none moves when another comes or goes. The keys by which the arena
 //! knows them are never shown.
 //!
-//! A key is found through tables: by origin, and then by the number of a command, or by the other fields of a slot. Rounds,
-//! tries and binary rounds are taken modulo some window; what shares a place there stands in a short list. The slots of
-//! rounds stand in a second table by round, so a drop looks at no slot that stays, but for those that share a place with one
-//! that goes. Tables grow to the places that were used, and keep their memory.
+//! A key is found through tables: by origin, and then by the number of a command, or by the other fields of a slot. What
+//! shares a place there stands in a short list. Where what lies behind is dropped (`Span::Window`), command numbers, rounds,
+//! tries and binary rounds are taken modulo some window, so the tables stay small. Where nothing is (`Span::Session`), each
+//! number and each round has places of its own, and the tries and binary rounds of a round share them: a list stays short
+//! however long the session is. The slots of rounds stand in a second table by round, so a drop looks at no slot that stays,
+//! but for those that share a place with one that goes. Tables grow to the places that were used, and keep their memory.
 #![tactic(auto)]
 
 mod bucket;
@@ -32,6 +34,8 @@ mod keys;
 mod origin;
 mod origins;
 mod ring;
+mod span;
 mod tree;
 
+pub use span::Span;
 pub use tree::Tree;

@@ -4,24 +4,20 @@ ghost use Rattle.std.specs.Prelude.{◌≡◌, ◌≢◌, None, OnOk, OnErr};
 ghost use Rattle.std.specs.FinMap.{empty, get, insert, remove};
 ghost use Rattle.instance_tree.specs.SlotMaps.{is_numbered_command};
 ghost use Rattle.instance_tree.specs.Keys.{TakesSpotOut};
-ghost use Rattle.instance_tree.specs.Places.{cell_of};
+ghost use Rattle.instance_tree.specs.Places.{cell_kind, cell_of};
 
 use crate::bucket::Bucket;
 use crate::buckets::{find_at, insert_at, remove_at};
 use crate::ring::Ring;
-use ritas_base::{Mem, Slot};
+use crate::span::Span;
+use ritas_base::{Mem, NUMBER_LIMIT, Slot};
 use std::alloc::Global;
 use std::marker::Model;
-
-/// How many of an origin's commands have a bucket of their own each.
-const COMMANDS: u32 = 128;
-
-/// How many rounds have cells of their own: rounds that are further apart may share one.
-pub(crate) const ROUNDS: u32 = 16;
 
 /// Slots with their keys: those of commands by their numbers, and each other one in a cell.
 #[derive(Drop)]
 pub(crate) struct Origin {
+    span: Span,
     commands: Ring,
     cells: Vec<Bucket>,
 }
@@ -40,16 +36,17 @@ impl Model for Origin {
 
     ghost view = { λ o. joined_map (o.commands ∷ o.cells.items) };
 
-    ghost invariant = { λ o. ArePlaced place_in_origin (o.commands ∷ o.cells.items) };
+    ghost invariant = { λ o. ArePlaced (place_in_origin o.span) (o.commands ∷ o.cells.items) };
 }
 
 impl Origin {
     /// No slot has a key. It takes no memory.
-    pub(crate) fn new(alloc: Global) -> Origin
+    pub(crate) fn new(alloc: Global, span: Span) -> Origin
         ensures { result ≡ empty }
     {
         Origin {
-            commands: Ring::new(alloc, COMMANDS),
+            span,
+            commands: Ring::new(alloc, span.commands()),
             cells: Vec::new(alloc),
         }
     }
@@ -61,7 +58,7 @@ impl Origin {
         if slot.class == 1 {
             self.commands.find(slot)
         } else {
-            find_at(self.cells.as_slice(), cell_of(slot), slot)
+            find_at(self.cells.as_slice(), cell_of(self.span, slot), slot)
         }
     }
 
@@ -74,7 +71,7 @@ impl Origin {
         if slot.class == 1 {
             self.commands.insert(slot, key)
         } else {
-            insert_at(&mut self.cells, cell_of(&slot), slot, key)
+            insert_at(&mut self.cells, cell_of(self.span, &slot), slot, key)
         }
     }
 
@@ -83,7 +80,7 @@ impl Origin {
         requires { slot.now.class ≢ 1 }
         ensures { self.new ≡ remove self.old slot.now }
     {
-        remove_at(&mut self.cells, cell_of(slot), slot);
+        remove_at(&mut self.cells, cell_of(self.span, slot), slot);
     }
 
     /// Takes out the slot of a command that is numbered below; `None` where there is no such slot.
@@ -94,15 +91,27 @@ impl Origin {
     }
 }
 
-// The cell of a slot that isn't of a command.
-fn cell_of(slot: &Slot) -> usize
-    ensures { result ≡ cell_of slot.now }
+// A number for the class, and in class 5 for the step.
+fn cell_kind(slot: &Slot) -> u8
+    ensures { result ≡ cell_kind slot.now }
 {
-    let kind = if slot.class == 5 {
+    if slot.class == 5 {
         4 + slot.step % 4
     } else {
         slot.class % 4
-    };
-    let round = slot.attempt % 4 * 4 + slot.bround % 4;
-    (usize::from(round) * 8 + usize::from(kind)) * 16 + (slot.a % ROUNDS) as usize
+    }
+}
+
+// The cell of a slot that isn't of a command.
+fn cell_of(span: Span, slot: &Slot) -> usize
+    ensures { result ≡ cell_of span slot.now }
+{
+    let kind = usize::from(cell_kind(slot));
+    match span {
+        Span::Window => {
+            let tries = usize::from(slot.attempt % 4 * 4 + slot.bround % 4);
+            (tries * 8 + kind) * 16 + (slot.a % 16) as usize
+        }
+        Span::Session => (slot.a % NUMBER_LIMIT) as usize * 8 + kind,
+    }
 }

@@ -7,6 +7,7 @@ ghost use Rattle.instance_tree.specs.Keys.{TakesSpotOut};
 ghost use Rattle.instance_tree.specs.Places.{AreSame};
 
 use crate::origin::Origin;
+use crate::span::Span;
 use ritas_base::{Mem, Slot};
 use std::alloc::Global;
 use std::marker::Model;
@@ -14,6 +15,7 @@ use std::marker::Model;
 /// Slots with their keys, by origin.
 #[derive(Drop)]
 pub(crate) struct Origins {
+    span: Span,
     origins: Vec<Origin>,
 }
 
@@ -36,10 +38,11 @@ impl Model for Origins {
 
 impl Origins {
     /// No slot has a key. It takes no memory.
-    pub(crate) fn new(alloc: Global) -> Origins
+    pub(crate) fn new(alloc: Global, span: Span) -> Origins
         ensures { result ≡ empty }
     {
         Origins {
+            span,
             origins: Vec::new(alloc),
         }
     }
@@ -62,7 +65,7 @@ impl Origins {
         ensures err { OnErr result (self.new ≡ self.old) }
     {
         let place = usize::from(slot.origin);
-        reach(&mut self.origins, place)?;
+        reach(&mut self.origins, self.span, place)?;
         self.origins[place].insert(slot, key)
     }
 
@@ -90,13 +93,13 @@ impl Origins {
 }
 
 // There is an origin at the place.
-fn reach(origins: &mut Vec<Origin>, place: usize) -> Result<(), Mem>
+fn reach(origins: &mut Vec<Origin>, span: Span, place: usize) -> Result<(), Mem>
     ensures same { AreSame origins.old.items origins.new.items }
     ensures ok { OnOk result (place < length origins.new.items) }
 {
     let alloc = *origins.allocator();
     while origins.len() <= place {
-        origins.push(Origin::new(alloc))?;
+        origins.push(Origin::new(alloc, span))?;
     }
     Ok(())
 }

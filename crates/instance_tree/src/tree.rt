@@ -7,6 +7,7 @@ ghost use Rattle.std.specs.FinMap.{empty, get, insert};
 ghost use Rattle.instance_tree.specs.SlotMaps.{without_slots, is_before_round, is_command_below};
 
 use crate::keys::Keys;
+use crate::span::Span;
 use ritas_base::{Mem, Slot};
 use slab::Slab;
 use std::alloc::Global;
@@ -37,13 +38,13 @@ impl<V> Model for Tree<V> {
 impl<V: Drop> Tree<V> {
     ghost use Rattle.instance_tree.specs.Lends.{lends_at};
 
-    /// No slot has a value. It takes no memory.
-    pub fn new(alloc: Global) -> Tree<V>
+    /// No slot has a value. The span says for how many slots at a time its look-ups are quick. It takes no memory.
+    pub fn new(alloc: Global, span: Span) -> Tree<V>
         ensures { result ≡ empty }
     {
         Tree {
             arena: Slab::new(alloc),
-            keys: Keys::new(alloc),
+            keys: Keys::new(alloc, span),
         }
     }
 

@@ -1,6 +1,6 @@
 //! Tests of a tree: what is found and written, and what is made again where it was dropped.
 
-use instance_tree::Tree;
+use instance_tree::{Span, Tree};
 use ritas_base::Slot;
 
 // Makes a value at a slot that has none.
@@ -18,18 +18,23 @@ fn has(tree: &Tree<u32>, slot: Slot, value: u32) -> bool {
     }
 }
 
+// The tables of a tree are for a window of slots or for a session, and the tree is the same map.
+const SPANS: [Span; 2] = [Span::Window, Span::Session];
+
 #[test]
 fn a_value_is_made_found_and_written(rt: HostRuntime) {
-    let mut tree = Tree::new(rt.alloc());
-    assert!(rt; put(&rt, &mut tree, Slot::command(2, 7), 70));
-    assert!(rt; has(&tree, Slot::command(2, 7), 70));
-    assert!(rt; tree.find(&Slot::command(3, 7)).is_none());
-    assert!(rt; tree.find_mut(&Slot::command(2, 8)).is_none());
-    if let Some(value) = tree.find_mut(&Slot::command(2, 7)) {
-        *value = 71;
+    for span in SPANS {
+        let mut tree = Tree::new(rt.alloc(), span);
+        assert!(rt; put(&rt, &mut tree, Slot::command(2, 7), 70));
+        assert!(rt; has(&tree, Slot::command(2, 7), 70));
+        assert!(rt; tree.find(&Slot::command(3, 7)).is_none());
+        assert!(rt; tree.find_mut(&Slot::command(2, 8)).is_none());
+        if let Some(value) = tree.find_mut(&Slot::command(2, 7)) {
+            *value = 71;
+        }
+        assert!(rt; has(&tree, Slot::command(2, 7), 71));
+        assert!(rt; !put(&rt, &mut tree, Slot::command(2, 7), 72));
     }
-    assert!(rt; has(&tree, Slot::command(2, 7), 71));
-    assert!(rt; !put(&rt, &mut tree, Slot::command(2, 7), 72));
 }
 
 // How many slots `nth` has.
@@ -78,15 +83,17 @@ fn are_left(tree: &Tree<u32>, round: u32, below: u32) -> bool {
 // Commands go first. What went is made again, lesser numbers too, and goes in another order.
 #[test]
 fn what_was_dropped_is_made_again(rt: HostRuntime) {
-    let mut tree = Tree::new(rt.alloc());
-    assert!(rt; fill(&rt, &mut tree));
-    tree.drop_commands(200, 66);
-    tree.drop_before(193);
-    assert!(rt; are_left(&tree, 193, 66));
-    assert!(rt; fill(&rt, &mut tree) && are_left(&tree, 0, 0));
-    tree.drop_commands(3, 193);
-    assert!(rt; are_left(&tree, 0, 0));
-    tree.drop_before(64);
-    tree.drop_commands(200, 1);
-    assert!(rt; are_left(&tree, 64, 1));
+    for span in SPANS {
+        let mut tree = Tree::new(rt.alloc(), span);
+        assert!(rt; fill(&rt, &mut tree));
+        tree.drop_commands(200, 66);
+        tree.drop_before(193);
+        assert!(rt; are_left(&tree, 193, 66));
+        assert!(rt; fill(&rt, &mut tree) && are_left(&tree, 0, 0));
+        tree.drop_commands(3, 193);
+        assert!(rt; are_left(&tree, 0, 0));
+        tree.drop_before(64);
+        tree.drop_commands(200, 1);
+        assert!(rt; are_left(&tree, 64, 1));
+    }
 }

@@ -45,8 +45,8 @@ impl<S: Service, E: Broadcast, C: Coin + Drop> Replica<S, E, C> {
     /// The replica that has these keys, before any call. The one error is want of memory.
     ///
     /// The service serves the mode's root service, and the form of the other broadcast is 2 in root service 2 or where VECT
-    /// goes by echo broadcast, and otherwise that of reliable broadcast in the mode's version of frames: 1 in version 1, 3 in
-    /// version 2. The keys are of that version too.
+    /// goes by echo broadcast, and otherwise that of the reliable broadcast of VECTs in the mode's version of frames: 1 in
+    /// version 1, 3 in versions 2 and 3. The keys are of that version too.
     pub fn new(alloc: Global, p: Params, mode: Mode, keys: Keys, coin: C) -> Result<Self, Mem>
         requires made_for { keys.n ≡ p.n }
         requires version { keys.version ≡ mode.version }

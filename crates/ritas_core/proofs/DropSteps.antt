@@ -4,6 +4,8 @@ use Rattle.std.specs.FinMap.{get}
 use Rattle.std.proofs.Math.Dec.{eqb, ltb}
 use Rattle.std.proofs.lemmas.Bool.{both_ways, ltb-true}
 use Rattle.ritas_base.specs.declared.slot.Slot.{Slot}
+use Rattle.ritas_base.specs.declared.mode.FrameVersion.{FrameVersion}
+use Rattle.ritas_base.specs.Versions.{has_past}
 use Rattle.ritas_base.specs.Slots.{within}
 use Rattle.ritas_base.specs.Messages.{Place}
 use Rattle.ritas_base.specs.Tags.{Tags}
@@ -45,31 +47,32 @@ not_dropped r w s near =
     ∙ ap (λ (b : Bool). within 1 5 s.class && b) (and_false (ltb s.origin r.casts.numbers.n)) ∙ and_false (within 1 5 s.class)
 
 -- ---- by what the service shows
-by_mark : (one : Bool) (a base completed base_is completed_is : ℕ) → base ≡ base_is → completed ≡ completed_is →
-    cond one (ltb (a + 64) (cond one base completed)) (ltb (a + 2) (cond one base completed)) ≡ cond one (ltb (a + 64) base_is) (ltb (a + 2) completed_is)
-by_mark true a base completed b c bases rounds = ap (ltb (a + 64)) bases
-by_mark false a base completed b c bases rounds = ap (ltb (a + 2)) rounds
+by_mark : (has one : Bool) (a base completed base_is completed_is : ℕ) → base ≡ base_is → completed ≡ completed_is →
+    (has && cond one (ltb (a + 64) (cond one base completed)) (ltb (a + 2) (cond one base completed)))
+    ≡ (has && cond one (ltb (a + 64) base_is) (ltb (a + 2) completed_is))
+by_mark has true a base completed b c bases rounds = ap (λ (k : ℕ). has && ltb (a + 64) k) bases
+by_mark has false a base completed b c bases rounds = ap (λ (k : ℕ). has && ltb (a + 2) k) rounds
 
 module _ (r : Rules) (w : List Word) (shown : ServiceShown) (s : Slot) where
-  pub dropped_same : Shows r.service (seat_of r) w shown → is_dropped_shown shown r.casts.numbers.n s ≡ is_dropped r w s
+  pub dropped_same : Shows r.service (seat_of r) w shown → is_dropped_shown r.mode.version shown r.casts.numbers.n s ≡ is_dropped r w s
   dropped_same shows =
-      both_before (within 1 5 s.class) (ltb s.origin r.casts.numbers.n) (is_behind s (mark_shown shown s)) (is_past r.service (seat_of r) w s)
-      (λ inside. by_mark (eqb s.class 1) s.a (shown.base s.origin) shown.completed (r.service.base (seat_of r) w s.origin) (r.service.completed (seat_of r) w)
+      both_before (within 1 5 s.class) (ltb s.origin r.casts.numbers.n) (is_behind r.mode.version s (mark_shown shown s)) (is_past r.service (seat_of r) w s)
+      (λ inside. by_mark (has_past r.mode.version) (eqb s.class 1) s.a (shown.base s.origin) shown.completed (r.service.base (seat_of r) w s.origin) (r.service.completed (seat_of r) w)
       (shows.base s.origin (ltb-true s.origin r.casts.numbers.n inside)) shows.completed)
 
   -- where the service shows what it does by one of two lists of words
   pub dropped_between : WordLaws r.service → (c : Word) → AreProper r.service (seat_of r) (c ∷ w) → ShowsBetween r.service (seat_of r) w (c ∷ w) shown →
-      is_dropped_shown shown r.casts.numbers.n s ≡ false → is_dropped r w s ≡ false
+      is_dropped_shown r.mode.version shown r.casts.numbers.n s ≡ false → is_dropped r w s ≡ false
   dropped_between laws c proper by =
-      both_false (within 1 5 s.class) (ltb s.origin r.casts.numbers.n) (is_behind s (mark_shown shown s)) (is_past r.service (seat_of r) w s)
+      both_false (within 1 5 s.class) (ltb s.origin r.casts.numbers.n) (is_behind r.mode.version s (mark_shown shown s)) (is_past r.service (seat_of r) w s)
       (λ inside near. near_before (ltb-true s.origin r.casts.numbers.n inside) near)
     where
       seat : Seat
       seat = seat_of r
 
-      near_before : s.origin < r.casts.numbers.n → is_behind s (mark_shown shown s) ≡ false → is_past r.service seat w s ≡ false
+      near_before : s.origin < r.casts.numbers.n → is_behind r.mode.version s (mark_shown shown s) ≡ false → is_past r.service seat w s ≡ false
       near_before inside near =
-          elim (past_either (eqb s.class 1) s.a (shown.base s.origin) shown.completed
+          elim (past_either (has_past r.mode.version) (eqb s.class 1) s.a (shown.base s.origin) shown.completed
           (r.service.base seat w s.origin) (r.service.base seat (c ∷ w) s.origin) (r.service.completed seat w) (r.service.completed seat (c ∷ w))
           (by.base s.origin inside) by.completed) [
             | inl e ↦ sym e ∙ near
@@ -77,9 +80,9 @@ module _ (r : Rules) (w : List Word) (shown : ServiceShown) (s : Slot) where
           ]
 
 -- the number of replicas may be written in another way
-pub dropped_by : {B : Type 0} (shown : ServiceShown) (old new : SlotMap B) (n is : ℕ) → n ≡ is → DropsPast (is_dropped_shown shown n) n old new →
-    DropsPast (is_dropped_shown shown is) is old new
-dropped_by shown old new n is same drops = subst (λ (k : ℕ). DropsPast (is_dropped_shown shown k) k old new) same drops
+pub dropped_by : {B : Type 0} (version : FrameVersion) (shown : ServiceShown) (old new : SlotMap B) (n is : ℕ) → n ≡ is →
+    DropsPast (is_dropped_shown version shown n) n old new → DropsPast (is_dropped_shown version shown is) is old new
+dropped_by version shown old new n is same drops = subst (λ (k : ℕ). DropsPast (is_dropped_shown version shown k) k old new) same drops
 
 -- what is dropped stays so by a word more
 still_past : (a b : Bool) → (b ≡ false → a ≡ false) → a ≡ true → b ≡ true

@@ -5,6 +5,8 @@ use Rattle.std.proofs.Math.Dec.{eqb, leb, ltb}
 use Rattle.std.proofs.lemmas.Bool.{leb-true, leb-false, le-leb, lt-leb, lt-ltb, le-ltb, ltb-true, ltb-false, eqb-true, eqb-false, eq-eqb}
 use Rattle.std.specs.FinMap.{get, get-retain_keys}
 use Rattle.ritas_base.specs.declared.slot.Slot.{Slot}
+use Rattle.ritas_base.specs.declared.mode.FrameVersion.{FrameVersion}
+use Rattle.ritas_base.specs.Versions.{has_past}
 use Rattle.ritas_base.specs.SlotOrder.{exact_slots}
 use Rattle.ritas_base.specs.Slots.{within}
 use Rattle.layer_api.specs.ServiceCalls.{ServiceShown}
@@ -97,7 +99,11 @@ from_two class other = ap (λ (b : Bool). b && leb class 5) (by (leb 1 class) re
         le-leb 2 class (omega (arith, some, apart)) ∙ sym is
     by false is = let none = leb-false 1 class is in lt-leb 2 class (omega (arith, none)) ∙ sym is
 
-module _ (shown : ServiceShown) (n : ℕ) (s : Slot) (inside : s.origin < n) where
+-- whether a slot lies behind a mark, where there is a past
+abbrev is_left : Slot → ℕ → Bool
+is_left s mark = cond (eqb s.class 1) (ltb (s.a + 64) mark) (ltb (s.a + 2) mark)
+
+module _ (version : FrameVersion) (has : has_past version ≡ true) (shown : ServiceShown) (n : ℕ) (s : Slot) (inside : s.origin < n) where
   taken_by : (one : Bool) → eqb s.class 1 ≡ one →
       (within 2 5 s.class && ltb s.a (shown.completed - 2)) || (true && ((one && true) && ltb s.a (shown.base s.origin - 64)))
       ≡ within 1 5 s.class && (true && cond one (ltb (s.a + 64) (cond one (shown.base s.origin) shown.completed)) (ltb (s.a + 2) (cond one (shown.base s.origin) shown.completed)))
@@ -111,22 +117,23 @@ module _ (shown : ServiceShown) (n : ℕ) (s : Slot) (inside : s.origin < n) whe
       ∙ ap (λ (b : Bool). b && ltb s.a (shown.completed - 2)) (from_two s.class is)
       ∙ ap (λ (b : Bool). within 1 5 s.class && b) (less_or_more s.a 2 shown.completed)
 
-  pub taken_dropped : is_taken shown n s ≡ is_dropped_shown shown n s
+  pub taken_dropped : is_taken shown n s ≡ is_dropped_shown version shown n s
   taken_dropped =
       ap (λ (b : Bool). is_before_round (shown.completed - 2) s || (b && is_command_below s.origin (shown.base s.origin - 64) s)) (lt-ltb s.origin n inside)
       ∙ ap (λ (b : Bool). is_before_round (shown.completed - 2) s || (true && ((eqb s.class 1 && b) && ltb s.a (shown.base s.origin - 64)))) (eq-eqb s.origin s.origin refl)
       ∙ taken_by (eqb s.class 1) refl
-      ∙ sym (ap (λ (b : Bool). within 1 5 s.class && (b && is_behind s (mark_shown shown s))) (lt-ltb s.origin n inside))
+      ∙ sym (ap (λ (b : Bool). within 1 5 s.class && (true && (b && is_left s (mark_shown shown s)))) has)
+      ∙ sym (ap (λ (b : Bool). within 1 5 s.class && (b && is_behind version s (mark_shown shown s))) (lt-ltb s.origin n inside))
 
 taken_none : {X : Type 0} (b : Bool) (x : Option X) → x ≡ None → cond b None x ≡ None
 taken_none true x e = refl
 taken_none false x e = e
 
-pub drops_past : {B : Type 0} (shown : ServiceShown) (k : ℕ) (m l : SlotMap B) → ((s : Slot) → get l s ≡ cond (is_taken shown k s) None (get m s)) →
-    DropsPast (is_dropped_shown shown k) k m l
-drops_past {B} shown k m l taken = record {
+pub drops_past : {B : Type 0} (version : FrameVersion) → has_past version ≡ true → (shown : ServiceShown) (k : ℕ) (m l : SlotMap B) → ((s : Slot) → get l s ≡ cond (is_taken shown k s) None (get m s)) →
+    DropsPast (is_dropped_shown version shown k) k m l
+drops_past {B} version has shown k m l taken = record {
   gone = λ s past. gone_at s (ltb s.origin k) refl past;
-  kept = λ s inside near. taken s ∙ ap (λ (b : Bool). cond b None (get m s)) (taken_dropped shown k s inside ∙ near);
+  kept = λ s inside near. taken s ∙ ap (λ (b : Bool). cond b None (get m s)) (taken_dropped version has shown k s inside ∙ near);
   none = λ s e. taken s ∙ taken_none (is_taken shown k s) (get m s) e;
 }
   where
@@ -135,7 +142,22 @@ drops_past {B} shown k m l taken = record {
     never true false x e h = cc
     never false b x e h = cc
 
-    gone_at : (s : Slot) (b : Bool) → ltb s.origin k ≡ b → is_dropped_shown shown k s ≡ true → get l s ≡ None
+    gone_at : (s : Slot) (b : Bool) → ltb s.origin k ≡ b → is_dropped_shown version shown k s ≡ true → get l s ≡ None
     gone_at s true is past =
-        taken s ∙ ap (λ (b : Bool). cond b None (get m s)) (taken_dropped shown k s (ltb-true s.origin k is) ∙ past)
-    gone_at s false is past = absurd (never (within 1 5 s.class) (ltb s.origin k) (is_behind s (mark_shown shown s)) is past)
+        taken s ∙ ap (λ (b : Bool). cond b None (get m s)) (taken_dropped version has shown k s (ltb-true s.origin k is) ∙ past)
+    gone_at s false is past = absurd (never (within 1 5 s.class) (ltb s.origin k) (is_behind version s (mark_shown shown s)) is past)
+
+-- ---- where there is no past
+pub drops_nothing : {B : Type 0} (version : FrameVersion) → has_past version ≡ false → (shown : ServiceShown) (k : ℕ) (m : SlotMap B) →
+    DropsPast (is_dropped_shown version shown k) k m m
+drops_nothing version none shown k m = record {
+  gone = λ s past. absurd (never (within 1 5 s.class) (ltb s.origin k) (has_past version) (is_left s (mark_shown shown s)) none past);
+  kept = λ s inside near. refl;
+  none = λ s e. e;
+}
+  where
+    never : (a b has x : Bool) → has ≡ false → (a && (b && (has && x))) ≡ true → ⊥
+    never true true true x none h = cc
+    never true true false x none h = cc
+    never true false has x none h = cc
+    never false b has x none h = cc

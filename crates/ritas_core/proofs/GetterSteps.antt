@@ -53,7 +53,7 @@ shown_near inside false past e near = absurd (cc)
 
 -- what a slot shows is what it delivered and isn't hidden, before what a stop lost or with it
 module _ {S E C T : Type 0} (m : Meaning S E C T) (well : MeansWell m) (core : Core S E C T) (slot : Slot) (hidden : Bool)
-    (hides : hidden ≡ hides_shown (m.service_shown core.layers.service) core.layers.params.n core.layers.mode.root slot)
+    (hides : hidden ≡ hides_shown core.layers.mode (m.service_shown core.layers.service) core.layers.params.n slot)
     (r : Rules) (st : CoreState) (stands : CoreStands m core r st) where
   abbrev Out : Option (List ℕ)
   Out = layers_out (shown_by_cast m.cast_shown) core.layers slot
@@ -62,7 +62,7 @@ module _ {S E C T : Type 0} (m : Meaning S E C T) (well : MeansWell m) (core : C
   Shown = cond hidden None Out
 
   abbrev Hides : Bool
-  Hides = hides_shown (m.service_shown core.layers.service) r.casts.numbers.n r.mode.root slot
+  Hides = hides_shown r.mode (m.service_shown core.layers.service) r.casts.numbers.n slot
 
   laws : LayerLaws r
   laws = layer_laws m well.values well.words core r st stands
@@ -70,7 +70,7 @@ module _ {S E C T : Type 0} (m : Meaning S E C T) (well : MeansWell m) (core : C
   shown_is : Shown ≡ cond Hides None Out
   shown_is =
       ap (λ (b : Bool). cond b None Out)
-      (hides ∙ ap (λ (q : Rules). hides_shown (m.service_shown core.layers.service) q.casts.numbers.n q.mode.root slot) stands.rules)
+      (hides ∙ ap (λ (q : Rules). hides_shown q.mode (m.service_shown core.layers.service) q.casts.numbers.n slot) stands.rules)
 
   root_is : core.layers.mode.root ≡ r.mode.root
   root_is = ap (λ (q : Rules). q.mode.root) stands.rules
@@ -81,7 +81,7 @@ module _ {S E C T : Type 0} (m : Meaning S E C T) (well : MeansWell m) (core : C
       let from = ap (λ (n : ℕ). cond (leb 3 n) (shown_out (shown_by_cast m.cast_shown) (get core.layers.casts slot)) (map.get slot_cmp core.layers.outputs slot)) root_is
       ∙ ap (λ (b : Bool). cond b (shown_out (shown_by_cast m.cast_shown) (get core.layers.casts slot)) (map.get slot_cmp core.layers.outputs slot)) is in
       elim (stands.shows.casts slot
-      (shown_near (within 1 5 slot.class) (leb 3 r.mode.root) (is_past_shown (m.service_shown core.layers.service) r.casts.numbers.n slot) is near)) [
+      (shown_near (within 1 5 slot.class) (leb 3 r.mode.root) (is_past_shown r.mode.version (m.service_shown core.layers.service) r.casts.numbers.n slot) is near)) [
         | inl e ↦ inl (from ∙ e)
         | inr e ↦ inr (from ∙ e)
       ]

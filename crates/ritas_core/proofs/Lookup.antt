@@ -6,6 +6,7 @@ use Rattle.std.proofs.Math.Bool.{or-false}
 use Rattle.std.proofs.Math.Dec.{eqb, leb, ltb}
 use Rattle.std.proofs.lemmas.Bool.{ltb-false, le-ltb, leb-false, lt-leb, not-true}
 use Rattle.ritas_base.specs.declared.slot.Slot.{Slot}
+use Rattle.ritas_base.specs.Versions.{has_past}
 use Rattle.ritas_base.specs.declared.item.Item.{Item}
 use Rattle.ritas_base.specs.declared.item.Say.{Say}
 use Rattle.ritas_base.specs.declared.item.Kind.{Kind}
@@ -35,10 +36,11 @@ use Rattle.ritas_core.proofs.Verdicts.{is_open_by}
 not_behind : (a back mark now : ℕ) → mark ≤ now → ltb (a + back) now ≡ false → ltb (a + back) mark ≡ false
 not_behind a back mark now more near = le-ltb (a + back) mark (omega (arith, ltb-false (a + back) now near))
 
-not_past_by : (one : Bool) (a base completed base_now completed_now : ℕ) → base ≤ base_now → completed ≤ completed_now →
-    cond one (ltb (a + 64) base_now) (ltb (a + 2) completed_now) ≡ false → cond one (ltb (a + 64) base) (ltb (a + 2) completed) ≡ false
-not_past_by true a base completed base_now completed_now more rounds near = not_behind a 64 base base_now more near
-not_past_by false a base completed base_now completed_now more rounds near = not_behind a 2 completed completed_now rounds near
+not_past_by : (has one : Bool) (a base completed base_now completed_now : ℕ) → base ≤ base_now → completed ≤ completed_now →
+    (has && cond one (ltb (a + 64) base_now) (ltb (a + 2) completed_now)) ≡ false → (has && cond one (ltb (a + 64) base) (ltb (a + 2) completed)) ≡ false
+not_past_by false one a base completed base_now completed_now more rounds near = refl
+not_past_by true true a base completed base_now completed_now more rounds near = not_behind a 64 base base_now more near
+not_past_by true false a base completed base_now completed_now more rounds near = not_behind a 2 completed completed_now rounds near
 
 not_ahead_by : (one : Bool) (a base completed base_now completed_now : ℕ) → base ≤ base_now → completed ≤ completed_now →
     cond one (leb (base + 64) a) (ltb (completed + 4) a) ≡ false → cond one (leb (base_now + 64) a) (ltb (completed_now + 4) a) ≡ false
@@ -50,7 +52,7 @@ not_ahead_by false a base completed base_now completed_now more rounds near =
 module _ (r : ServiceRules) (laws : WordLaws r) (seat : Seat) (c : Word) (w : List Word) (proper : AreProper r seat (c ∷ w)) (s : Slot) where
   -- what isn't past wasn't past before
   pub was_not_past : is_past r seat (c ∷ w) s ≡ false → is_past r seat w s ≡ false
-  was_not_past near = not_past_by (eqb s.class 1) s.a (r.base seat w s.origin) (r.completed seat w) (r.base seat (c ∷ w) s.origin) (r.completed seat (c ∷ w))
+  was_not_past near = not_past_by (has_past seat.mode.version) (eqb s.class 1) s.a (r.base seat w s.origin) (r.completed seat w) (r.base seat (c ∷ w) s.origin) (r.completed seat (c ∷ w))
       (laws.base_stays seat c w s.origin proper) (laws.completed_stays seat c w proper) near
 
   -- and what isn't ahead is never ahead again

@@ -111,7 +111,7 @@ module _ {S E C T : Type 0} (m : Meaning S E C T) (well : MeansWell m) where
 
   -- by what the service shows
   pub exact_shown : (layers : Layers S E C T) (p : Parts) → LayersStand m layers p →
-      CastsShowAt (shown_by_cast m.cast_shown) (rules_of m layers).casts (is_dropped_shown (m.service_shown layers.service) layers.params.n) layers.casts p.calls
+      CastsShowAt (shown_by_cast m.cast_shown) (rules_of m layers).casts (is_dropped_shown layers.mode.version (m.service_shown layers.service) layers.params.n) layers.casts p.calls
   exact_shown layers p stood s near =
       exact layers p stood s
       (sym (dropped_same (rules_of m layers) p.words (m.service_shown layers.service) s
@@ -156,7 +156,7 @@ module _ {S E C T : Type 0} (m : Meaning S E C T) (well : MeansWell m) where
       (taken : WordTaken m.service_stands m.service.says old.service service word may none said)
       (nothing : none ≡ []) (same : says ≡ said) (rest : ChangesCasts (record old { service = service }) new) where
     abbrev Later : Slot → Bool
-    Later = is_dropped_shown (m.service_shown service) old.params.n
+    Later = is_dropped_shown old.mode.version (m.service_shown service) old.params.n
 
     grows : (p : Parts) → CanTell m old word p → m.service_stands service (seat_of (rules_of m old)) (word ∷ p.words)
     grows p can = taken.grows (seat_of (rules_of m old)) p.words can.stood.service (met p can)

@@ -4,6 +4,7 @@ use Rattle.std.specs.Option.{is_some, option_or}
 use Rattle.std.proofs.Math.Dec.{eqb, leb, ltb}
 use Rattle.std.proofs.lemmas.Bool.{both_ways, ltb-false, ltb-true}
 use Rattle.ritas_base.specs.declared.slot.Slot.{Slot}
+use Rattle.ritas_base.specs.Versions.{has_past}
 use Rattle.ritas_base.specs.SlotOrder.{is_slot, same_slot}
 use Rattle.ritas_base.specs.Shortest.{option_or_none}
 use Rattle.layer_api.specs.Service.{ServiceRules, Seat, WordLaws, AreProper, is_past}
@@ -89,12 +90,14 @@ between true false true past was now d same near hid out =
     ]
 
 -- a slot is past by the getters where it is by the one or by the other
-pub past_either : (one : Bool) (a base completed base_before base_after completed_before completed_after : ℕ) →
+pub past_either : (has one : Bool) (a base completed base_before base_after completed_before completed_after : ℕ) →
     (base ≡ base_before) ⊎ (base ≡ base_after) → (completed ≡ completed_before) ⊎ (completed ≡ completed_after) →
-    (cond one (ltb (a + 64) (cond one base completed)) (ltb (a + 2) (cond one base completed)) ≡ cond one (ltb (a + 64) base_before) (ltb (a + 2) completed_before))
-    ⊎ (cond one (ltb (a + 64) (cond one base completed)) (ltb (a + 2) (cond one base completed)) ≡ cond one (ltb (a + 64) base_after) (ltb (a + 2) completed_after))
-past_either true a base completed b b' c c' bases rounds = elim bases [ inl e ↦ inl (ap (ltb (a + 64)) e) | inr e ↦ inr (ap (ltb (a + 64)) e) ]
-past_either false a base completed b b' c c' bases rounds = elim rounds [ inl e ↦ inl (ap (ltb (a + 2)) e) | inr e ↦ inr (ap (ltb (a + 2)) e) ]
+    ((has && cond one (ltb (a + 64) (cond one base completed)) (ltb (a + 2) (cond one base completed))) ≡ (has && cond one (ltb (a + 64) base_before) (ltb (a + 2) completed_before)))
+    ⊎ ((has && cond one (ltb (a + 64) (cond one base completed)) (ltb (a + 2) (cond one base completed))) ≡ (has && cond one (ltb (a + 64) base_after) (ltb (a + 2) completed_after)))
+past_either has true a base completed b b' c c' bases rounds =
+    elim bases [ inl e ↦ inl (ap (λ (k : ℕ). has && ltb (a + 64) k) e) | inr e ↦ inr (ap (λ (k : ℕ). has && ltb (a + 64) k) e) ]
+past_either has false a base completed b b' c c' bases rounds =
+    elim rounds [ inl e ↦ inl (ap (λ (k : ℕ). has && ltb (a + 2) k) e) | inr e ↦ inr (ap (λ (k : ℕ). has && ltb (a + 2) k) e) ]
 
 -- nothing has delivered of an origin that isn't a replica
 none_from : (o : Option (List ℕ)) → (is_some o ≡ true → ⊥) → o ≡ None
@@ -110,11 +113,11 @@ none_beyond r laws h met s beyond =
 -- ---- what a slot shows, where the getters of the service and what its broadcast delivered are each by one of two histories
 module _ (r : Rules) (laws : LayerLaws r) (s : Slot) (o : Option Entry) (h : List Entry) (met : IsHistory r h) (whole : IsHistory r (with_entry o h))
     (shown : ServiceShown) (by : ShowsBetween r.service (seat_of r) (parts r h).words (parts r (with_entry o h)).words shown)
-    (d : Option (List ℕ)) (out : hides_shown shown r.casts.numbers.n r.mode.root s ≡ false → (d ≡ delivered_at r h s) ⊎ (d ≡ delivered_at r (with_entry o h) s)) where
+    (d : Option (List ℕ)) (out : hides_shown r.mode shown r.casts.numbers.n s ≡ false → (d ≡ delivered_at r h s) ⊎ (d ≡ delivered_at r (with_entry o h) s)) where
   abbrev Shown : Type 0
   Shown =
-      (cond (hides_shown shown r.casts.numbers.n r.mode.root s) None d ≡ shown_at r h s)
-      ⊎ (cond (hides_shown shown r.casts.numbers.n r.mode.root s) None d ≡ shown_at r (with_entry o h) s)
+      (cond (hides_shown r.mode shown r.casts.numbers.n s) None d ≡ shown_at r h s)
+      ⊎ (cond (hides_shown r.mode shown r.casts.numbers.n s) None d ≡ shown_at r (with_entry o h) s)
 
   none_by : (a b : Bool) → d ≡ None → delivered_at r h s ≡ None → cond a None d ≡ cond b None (delivered_at r h s)
   none_by true true e f = refl
@@ -126,8 +129,8 @@ module _ (r : Rules) (laws : LayerLaws r) (s : Slot) (o : Option Entry) (h : Lis
   shown_beyond beyond =
       let was = none_beyond r laws h met s beyond in
       let now = none_beyond r laws (with_entry o h) whole s beyond in
-      let bare = ap (λ (b : Bool). leb 3 r.mode.root && (b && is_behind s (mark_shown shown s))) beyond ∙ and_false (leb 3 r.mode.root) in
-      inl (none_by (hides_shown shown r.casts.numbers.n r.mode.root s) (is_hidden r h s) (elim (out bare) [ inl e ↦ e ∙ was | inr e ↦ e ∙ now ]) was)
+      let bare = ap (λ (b : Bool). leb 3 r.mode.root && (b && is_behind r.mode.version s (mark_shown shown s))) beyond ∙ and_false (leb 3 r.mode.root) in
+      inl (none_by (hides_shown r.mode shown r.casts.numbers.n s) (is_hidden r h s) (elim (out bare) [ inl e ↦ e ∙ was | inr e ↦ e ∙ now ]) was)
 
   shown_within : ltb s.origin r.casts.numbers.n ≡ true → Shown
   shown_within within =
@@ -136,12 +139,12 @@ module _ (r : Rules) (laws : LayerLaws r) (s : Slot) (o : Option Entry) (h : Lis
       let later = (parts r (with_entry o h)).words in
       let wide = widens_lost r laws s o h whole in
       let either =
-      past_either (eqb s.class 1) s.a (shown.base s.origin) shown.completed
+      past_either (has_past r.mode.version) (eqb s.class 1) s.a (shown.base s.origin) shown.completed
       (r.service.base seat w s.origin) (r.service.base seat later s.origin) (r.service.completed seat w) (r.service.completed seat later)
       (by.base s.origin (ltb-true s.origin r.casts.numbers.n within)) by.completed in
-      let inside : (past : Bool) → is_behind s (mark_shown shown s) ≡ past → is_past_shown shown r.casts.numbers.n s ≡ past = λ past e.
-      ap (λ (b : Bool). b && is_behind s (mark_shown shown s)) within ∙ e in
-      between (leb 3 r.mode.root) (is_past r.service seat w s) (is_past r.service seat later s) (is_past_shown shown r.casts.numbers.n s)
+      let inside : (past : Bool) → is_behind r.mode.version s (mark_shown shown s) ≡ past → is_past_shown r.mode.version shown r.casts.numbers.n s ≡ past = λ past e.
+      ap (λ (b : Bool). b && is_behind r.mode.version s (mark_shown shown s)) within ∙ e in
+      between (leb 3 r.mode.root) (is_past r.service seat w s) (is_past r.service seat later s) (is_past_shown r.mode.version shown r.casts.numbers.n s)
       (delivered_at r h s) (delivered_at r (with_entry o h) s) d
       (λ past. sym (heard_delivered r laws (with_entry o h) s) ∙ wide.same past ∙ heard_delivered r laws h s)
       wide.near

@@ -6,6 +6,8 @@ use Rattle.std.specs.FinMap.{get}
 use Rattle.std.specs.List.{AllByRecursion}
 use Rattle.std.proofs.lemmas.Bool.{cases_Bool, cond-false, and_parts, and_from, eqb-true, lt-ltb, false_from_ne_true, both_ways}
 use Rattle.ritas_base.specs.declared.slot.Slot.{Slot}
+use Rattle.ritas_base.specs.declared.mode.FrameVersion.{FrameVersion}
+use Rattle.ritas_base.specs.Versions.{has_past}
 use Rattle.ritas_base.specs.declared.slot.SlotFault.{SlotFault}
 use Rattle.ritas_base.specs.declared.item.Item.{Item}
 use Rattle.ritas_base.specs.declared.item.Kind.{Kind}
@@ -253,10 +255,12 @@ by_origin g k false o o' e = refl
 origins : (s q : Slot) → plain_slot s ≡ plain_slot q → cond (q.class == 1) s.origin 0 ≡ cond (q.class == 1) q.origin 0
 origins s q e = ap (λ (c : ℕ). cond (c == 1) s.origin 0) (sym (ap (λ (z : Slot). z.class) e)) ∙ ap (λ (z : Slot). z.origin) e
 
-behind_same : (base : ℕ → ℕ) (done : ℕ) (s q : Slot) → plain_slot s ≡ plain_slot q → lies_behind s (base s.origin) done ≡ lies_behind q (base q.origin) done
-behind_same base done s q e =
-    ap₂ (λ (c a : ℕ). cond (c == 1) (nat_lt (a + command_window) (base s.origin)) (nat_lt (a + rounds_kept) done)) (ap (λ (z : Slot). z.class) e) (ap (λ (z : Slot). z.a) e)
-    ∙ by_origin (λ o. nat_lt (q.a + command_window) (base o)) (nat_lt (q.a + rounds_kept) done) (q.class == 1) s.origin q.origin (origins s q e)
+behind_same : (version : FrameVersion) (base : ℕ → ℕ) (done : ℕ) (s q : Slot) → plain_slot s ≡ plain_slot q
+    → lies_behind version s (base s.origin) done ≡ lies_behind version q (base q.origin) done
+behind_same version base done s q e =
+    ap (λ (b : Bool). has_past version && b)
+    (ap₂ (λ (c a : ℕ). cond (c == 1) (nat_lt (a + command_window) (base s.origin)) (nat_lt (a + rounds_kept) done)) (ap (λ (z : Slot). z.class) e) (ap (λ (z : Slot). z.a) e)
+    ∙ by_origin (λ o. nat_lt (q.a + command_window) (base o)) (nat_lt (q.a + rounds_kept) done) (q.class == 1) s.origin q.origin (origins s q e))
 
 beyond_same : (base : ℕ → ℕ) (done : ℕ) (s q : Slot) → plain_slot s ≡ plain_slot q → lies_beyond s (base s.origin) done ≡ lies_beyond q (base q.origin) done
 beyond_same base done s q e =
@@ -285,7 +289,7 @@ module _ {S E C T : Type 0} (m : Meaning S E C T) (down : (seat : Seat) (w : Lis
       let r = rules_of m layers in
       let seat = seat_of r in
       nat_lt s.origin layers.params.n
-      && (not (lies_behind s (m.service.base seat p.words s.origin) (m.service.completed seat p.words))
+      && (not (lies_behind seat.mode.version s (m.service.base seat p.words s.origin) (m.service.completed seat p.words))
       && (not (lies_beyond s (m.service.base seat p.words s.origin) (m.service.completed seat p.words)) && (m.service.opens seat p.words s && b)))
 
   -- columns of one slot open together
@@ -312,7 +316,7 @@ module _ {S E C T : Type 0} (m : Meaning S E C T) (down : (seat : Seat) (w : Lis
       let c = r.casts in
       let counts = slot_counts layers.params layers.mode x.slot (in_grammar x fine) in
       let a = (and_parts (nat_lt y.slot.origin layers.params.n) _ opened).1 in
-      let b = and_parts (not (lies_behind y.slot (base y.slot.origin) done)) _ a in
+      let b = and_parts (not (lies_behind seat.mode.version y.slot (base y.slot.origin) done)) _ a in
       let d = and_parts (not (lies_beyond y.slot (base y.slot.origin) done)) _ b.1 in
       let e = and_parts (m.service.opens seat p.words y.slot) _ d.1 in
       let near : IsNoLater x.slot y.slot = record {
@@ -324,7 +328,7 @@ module _ {S E C T : Type 0} (m : Meaning S E C T) (down : (seat : Seat) (w : Lis
         step = counts.1;
       } in
       and_from (nat_lt x.slot.origin layers.params.n) _ (own_origin x fine)
-      (and_from (not (lies_behind x.slot (base x.slot.origin) done)) _ (ap not (behind_same base done x.slot y.slot same) ∙ b.0)
+      (and_from (not (lies_behind seat.mode.version x.slot (base x.slot.origin) done)) _ (ap not (behind_same seat.mode.version base done x.slot y.slot same) ∙ b.0)
       (and_from (not (lies_beyond x.slot (base x.slot.origin) done)) _ (ap not (beyond_same base done x.slot y.slot same) ∙ d.0)
       (and_from (m.service.opens seat p.words x.slot) _ (down seat p.words x.slot y.slot near e.0)
       (ap (λ (b : Bool). not b || (is_some (get layers.casts x.slot) && (c.at_slot x.slot).ready (place_at c x.slot) c.tags (p.calls x.slot) x)) plain))))
@@ -351,7 +355,7 @@ module _ {S E C T : Type 0} (m : Meaning S E C T) (down : (seat : Seat) (w : Lis
             ap (is_past_in m layers p) (sym (slot_by x true column) ∙ (slots ∙ slot_by y true (sym kinds_same ∙ column))) ∙ past
         | inr plain ↦
             and_from (nat_lt x.slot.origin layers.params.n) _ (own_origin x fine)
-            (behind_same (m.service.base seat p.words) (m.service.completed seat p.words) x.slot y.slot
+            (behind_same seat.mode.version (m.service.base seat p.words) (m.service.completed seat p.words) x.slot y.slot
             (sym (slot_by x false plain) ∙ (slots ∙ slot_by y false (sym kinds_same ∙ plain)))
             ∙ (and_parts (nat_lt y.slot.origin layers.params.n) _ past).1)
       ]

@@ -62,16 +62,16 @@ ChangesCasts old new = new ≡ record old { casts = new.casts }
 -- the broadcasts that are past, by what the service shows, were dropped, and then these says were started beside those left
 pub record StartsSaid {S E C T : Type 0} (m : Meaning S E C T) (old new : Layers S E C T) (says : List Say) (before after_it : List Msg) : Type 0 where
   pub left : SlotMap (Cast E)
-  pub drops : DropsPast (is_dropped_shown (m.service_shown old.service) old.params.n) old.params.n old.casts left
+  pub drops : DropsPast (is_dropped_shown old.mode.version (m.service_shown old.service) old.params.n) old.params.n old.casts left
   pub starts : StartsCasts (CastStandsAt old.mode m.cast_stands) (rules_of m old).casts
-      (is_dropped_shown (m.service_shown old.service) old.params.n) (m.me old.tagger) left new.casts says before after_it
+      (is_dropped_shown old.mode.version (m.service_shown old.service) old.params.n) (m.me old.tagger) left new.casts says before after_it
 
 -- for want of memory not all were
 pub record StartsFewerSaid {S E C T : Type 0} (m : Meaning S E C T) (old new : Layers S E C T) (says : List Say) : Type 0 where
   pub left : SlotMap (Cast E)
-  pub drops : DropsPast (is_dropped_shown (m.service_shown old.service) old.params.n) old.params.n old.casts left
+  pub drops : DropsPast (is_dropped_shown old.mode.version (m.service_shown old.service) old.params.n) old.params.n old.casts left
   pub starts : StartsFewer (CastStandsAt old.mode m.cast_stands) (shown_by_cast m.cast_shown) (rules_of m old).casts
-      (is_dropped_shown (m.service_shown old.service) old.params.n) (m.me old.tagger) left new.casts says
+      (is_dropped_shown old.mode.version (m.service_shown old.service) old.params.n) (m.me old.tagger) left new.casts says
 
 -- the service may have a word
 pub record CanTell {S E C T : Type 0} (m : Meaning S E C T) (layers : Layers S E C T) (word : Word) (p : Parts) : Type 0 where

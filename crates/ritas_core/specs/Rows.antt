@@ -1,10 +1,11 @@
--- Worked rows: the window of commands, the bytes that may be held, and the order of messages.
+-- Worked rows: the window of commands, what version 3 does otherwise, the bytes that may be held, and the order of messages.
 use Rattle.std.specs.Prelude.{◌≡◌, ℕ, Bool, true, false, [], ◌∷◌, None, refl}
 use Rattle.std.proofs.Common.{lit≤}
 use Rattle.ritas_base.specs.Numbers.{Numbers}
 use Rattle.ritas_base.specs.declared.mode.Mode.{Mode}
 use Rattle.ritas_base.specs.declared.mode.Vect.TheVariants.{Reliable}
-use Rattle.ritas_base.specs.declared.mode.FrameVersion.TheVariants.{One}
+use Rattle.ritas_base.specs.declared.mode.FrameVersion.TheVariants.{One, Three}
+use Rattle.ritas_base.specs.declared.slot.Slot.{Slot}
 use Rattle.ritas_base.specs.declared.item.Item.{Item}
 use Rattle.ritas_base.specs.declared.item.Kind.{Kind}
 use Rattle.ritas_base.specs.declared.item.Kind.TheVariants.{Init, Echo, Ready}
@@ -18,7 +19,8 @@ use Rattle.reliable_bcast.specs.Bracha.{bracha}
 use Rattle.ritas_core.specs.declared.fault.CoreFault.TheVariants.{Past, Ahead, HeldFull}
 use Rattle.ritas_core.specs.declared.verdict.Verdict.{Verdict}
 use Rattle.ritas_core.specs.declared.verdict.Verdict.TheVariants.{Refuse, Again, Hold, Take}
-use Rattle.ritas_core.specs.Rules.{Rules, by_other, casts_by}
+use Rattle.ritas_core.specs.declared.route.Route.TheVariants as routes
+use Rattle.ritas_core.specs.Rules.{Rules, by_other, other_form, route_of, casts_by}
 use Rattle.ritas_core.specs.Parts.{no_parts}
 use Rattle.ritas_core.specs.Order.{ordered}
 use Rattle.ritas_core.specs.Checks.{verdict_on}
@@ -50,8 +52,11 @@ from_hundred opened = record {
   decided = λ seat w x. None;
 }
 
+abbrev rules_in : Mode → Bool → Rules
+rules_in mode opened = record { mode = mode; casts = casts_by mode four 0 no_tags bracha; coin = λ s. false; service = from_hundred opened }
+
 abbrev rules_with : Bool → Rules
-rules_with opened = record { mode = one; casts = casts_by one four 0 no_tags bracha; coin = λ s. false; service = from_hundred opened }
+rules_with opened = rules_in one opened
 
 -- ---- the window of commands
 
@@ -81,8 +86,11 @@ last_past = refl
 -- ---- the window of rounds
 
 -- INIT of replica 1's list of identifiers in this round
+abbrev in_class : ℕ → ℕ → Slot
+in_class class round = record { class = class; a = round; attempt = 0; bround = 0; step = 0; origin = 1 }
+
 abbrev round_init : ℕ → Item
-round_init round = record { from = 1; kind = Init; slot = record { class = 2; a = round; attempt = 0; bround = 0; step = 0; origin = 1 }; value = 7 ∷ [] }
+round_init round = record { from = 1; kind = Init; slot = in_class 2 round; value = 7 ∷ [] }
 
 abbrev verdict_in : ℕ → Verdict
 verdict_in round = verdict_on (rules_with true) no_parts [] (round_init round)
@@ -102,6 +110,54 @@ first_round_inside = refl
 last_round_past : verdict_in 97 ≡ Refuse (Past 100)
 unfolding verdict_on by_other
 last_round_past = refl
+
+-- ---- in version 3 no command and no round is past
+
+abbrev session : Mode
+session = record { root = 6; vect = Reliable; version = Three; low = lit≤ tt; high = lit≤ tt }
+
+abbrev verdict_in_session : Item → Verdict
+verdict_in_session item = verdict_on (rules_in session true) no_parts [] item
+
+first_command_stays : verdict_in_session (init 0) ≡ Take
+unfolding verdict_on by_other
+first_command_stays = refl
+
+first_round_stays : verdict_in_session (round_init 0) ≡ Take
+unfolding verdict_on by_other
+first_round_stays = refl
+
+-- what is too far ahead is as in the other versions
+session_ahead : verdict_in_session (init 164) ≡ Refuse (Ahead 100)
+unfolding verdict_on by_other
+session_ahead = refl
+
+-- and the steps of binary consensus go by values, lists, proposals and commands by digests, and so do VECTs, where echo
+-- broadcast isn't chosen for them
+
+steps_by_values : route_of session (in_class 5 0) ≡ routes.Values
+unfolding by_other
+steps_by_values = refl
+
+lists_by_digests : route_of session (in_class 2 0) ≡ routes.Digests
+unfolding by_other
+lists_by_digests = refl
+
+proposals_by_digests : route_of session (in_class 3 0) ≡ routes.Digests
+unfolding by_other
+proposals_by_digests = refl
+
+commands_by_digests : route_of session (command_slot 1 0) ≡ routes.Digests
+unfolding by_other
+commands_by_digests = refl
+
+vects_by_other : route_of session (in_class 4 0) ≡ routes.Other
+unfolding by_other
+vects_by_other = refl
+
+other_has_digests : other_form session ≡ 3
+unfolding other_form
+other_has_digests = refl
 
 -- ---- what may be held
 

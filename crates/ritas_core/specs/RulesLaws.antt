@@ -1,5 +1,5 @@
 -- The laws of a core's broadcasts at each slot, from those of its other broadcast.
-use Rattle.std.proofs.Common.{◌≡◌, ℕ, Bool, true, false, cond, ◌&&◌, None, List, ◌∷◌, [], refl, subst}
+use Rattle.std.proofs.Common.{◌≡◌, ℕ, Bool, true, false, cond, ◌&&◌, None, List, ◌∷◌, [], refl, sym, ◌∙◌, ap, subst}
 use Rattle.std.proofs.Math.Dec.{eqb, ltb}
 use Rattle.std.proofs.lemmas.Bool.{false≢true, eqb-true}
 use Rattle.ritas_base.specs.declared.slot.Slot.{Slot}
@@ -21,7 +21,7 @@ use Rattle.ritas_core.specs.declared.route.Route.{Route}
 use Rattle.ritas_core.specs.declared.route.Route.TheVariants as routes
 use Rattle.ritas_base.specs.Tags.{Tags, HasDigests}
 use Rattle.ritas_base.specs.declared.mode.FrameVersion.{FrameVersion}
-use Rattle.ritas_base.specs.declared.mode.FrameVersion.TheVariants.{One, Two}
+use Rattle.ritas_base.specs.declared.mode.FrameVersion.TheVariants.{One, Two, Three}
 
 -- ---- the laws of a single value
 
@@ -61,31 +61,37 @@ no_vect_in root class four there two =
     false≢true (subst (λ (n : ℕ). has_class 2 n ≡ true) (eqb-true class 4 four) at_two)
 
 abbrev form_by : Bool → Vect → FrameVersion → ℕ
-form_by two vect version = cond two 2 (elim vect [ Echo ↦ 2 | Reliable ↦ reliable_form version ])
+form_by two vect version = cond two 2 (elim vect [ Echo ↦ 2 | Reliable ↦ reliable_form version 4 ])
 
 abbrev has_echo : Vect → Bool
 has_echo vect = elim vect [ Echo ↦ true | Reliable ↦ false ]
 
-reliable_by : (version : FrameVersion) (other : BroadcastRules) → (rules_by (reliable_route version) other).form ≡ reliable_form version
-reliable_by One other = refl
-reliable_by Two other = refl
+reliable_by : (version : FrameVersion) (class : ℕ) (other : BroadcastRules) → (rules_by (reliable_route version class) other).form ≡ reliable_form version class
+reliable_by One class other = refl
+reliable_by Two class other = refl
+reliable_by Three class other = of_step (eqb class 5)
+  where
+    of_step : (is : Bool) → (rules_by (cond is routes.Values routes.Digests) other).form ≡ cond is 1 3
+    of_step true = refl
+    of_step false = refl
 
-forms_by : (one two four : Bool) (vect : Vect) (version : FrameVersion) (other : BroadcastRules) → (four ≡ true → two ≡ true → ⊥) →
-    other.form ≡ form_by two vect version →
-    (rules_by (cond (cond one two four) routes.Other (reliable_route version)) other).form ≡ cond (cond one two (four && has_echo vect)) 2 (reliable_form version)
-forms_by true true four vect version other apart form = form
-forms_by true false four vect version other apart form = reliable_by version other
-forms_by false two false vect version other apart form = reliable_by version other
-forms_by false true true vect version other apart form = absurd (apart refl refl)
-forms_by false false true Echo version other apart form = form
-forms_by false false true Reliable version other apart form = form
+forms_by : (one two four : Bool) (vect : Vect) (version : FrameVersion) (class : ℕ) (other : BroadcastRules) → (four ≡ true → class ≡ 4) →
+    (four ≡ true → two ≡ true → ⊥) → other.form ≡ form_by two vect version →
+    (rules_by (cond (cond one two four) routes.Other (reliable_route version class)) other).form
+    ≡ cond (cond one two (four && has_echo vect)) 2 (reliable_form version class)
+forms_by true true four vect version class other is apart form = form
+forms_by true false four vect version class other is apart form = reliable_by version class other
+forms_by false two false vect version class other is apart form = reliable_by version class other
+forms_by false true true vect version class other is apart form = absurd (apart refl refl)
+forms_by false false true Echo version class other is apart form = form
+forms_by false false true Reliable version class other is apart form = form ∙ sym (ap (reliable_form version) (is refl))
 
 -- each slot's broadcast has the form that the grammar gives to it, where the other one has the form of the mode
 pub kinds_fit : (numbers : Numbers) (mode : Mode) (me : ℕ) (tags : Tags) (other : BroadcastRules) → HasForm mode other → HasDigests tags → FormsFit mode (casts_by mode numbers me tags other)
 unfolding by_other other_form by_echo form_of
 kinds_fit numbers mode me tags other form digests = record {
   forms = λ s right.
-      forms_by (eqb s.class 1) (eqb mode.root 2) (eqb s.class 4) mode.vect mode.version other
+      forms_by (eqb s.class 1) (eqb mode.root 2) (eqb s.class 4) mode.vect mode.version s.class other (eqb-true s.class 4)
       (λ four two. no_vect_in mode.root s.class four (class_is_there numbers mode s right) two) form;
   digests = digests;
 }

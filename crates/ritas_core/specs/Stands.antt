@@ -68,7 +68,7 @@ pub record LayersStand {S E C T : Type 0} (m : Meaning S E C T) (layers : Layers
 -- of the other
 pub record LayersShow {S E C T : Type 0} (m : Meaning S E C T) (layers : Layers S E C T) (r : Rules) (p later : Parts) : Type 0 where
   pub service : ShowsBetween r.service (seat_of r) p.words later.words (m.service_shown layers.service)
-  pub casts : CastsShow (shown_by_cast m.cast_shown) r.casts (is_dropped_shown (m.service_shown layers.service) r.casts.numbers.n) layers.casts p.calls later.calls
+  pub casts : CastsShow (shown_by_cast m.cast_shown) r.casts (is_dropped_shown r.mode.version (m.service_shown layers.service) r.casts.numbers.n) layers.casts p.calls later.calls
 
 -- the held items may be given
 abbrev pub AreGoodKept : Rules → List HeldItem → Type 0

@@ -7,7 +7,7 @@ ghost use Rattle.ritas_base.specs.History.{Call};
 ghost use Rattle.ritas_base.specs.Tags.{Tags};
 ghost use Rattle.layer_api.specs.BroadcastCalls.{Started, Takes};
 ghost use Rattle.ritas_core.specs.declared.route.Route.{Route};
-ghost use Rattle.ritas_core.specs.Rules.{route_of, rules_by};
+ghost use Rattle.ritas_core.specs.Rules.{reliable_route, route_of, rules_by};
 ghost use Rattle.ritas_core.specs.SlotCast.{CastStands, CastStandsAt, is_cast_live, shown_by_cast};
 
 use crate::route::Route;
@@ -24,6 +24,23 @@ pub enum Cast<E> {
     Other(E),
 }
 
+/// By which reliable broadcast the slots of a class go.
+fn reliable_route(version: FrameVersion, class: u8) -> Route
+    ensures { result ≡ reliable_route version class }
+{
+    match version {
+        FrameVersion::One => Route::Values,
+        FrameVersion::Two => Route::Digests,
+        FrameVersion::Three => {
+            if class == 5 {
+                Route::Values
+            } else {
+                Route::Digests
+            }
+        }
+    }
+}
+
 /// By which broadcast a slot goes.
 #[tactic(auto, unfolding(crate::specs::Rules::by_other))]
 fn route_of(mode: &Mode, slot: &Slot) -> Route
@@ -34,10 +51,10 @@ fn route_of(mode: &Mode, slot: &Slot) -> Route
     } else {
         slot.class == 4
     };
-    match (is_other, mode.version) {
-        (true, _) => Route::Other,
-        (false, FrameVersion::One) => Route::Values,
-        (false, FrameVersion::Two) => Route::Digests,
+    if is_other {
+        Route::Other
+    } else {
+        reliable_route(mode.version, slot.class)
     }
 }
 

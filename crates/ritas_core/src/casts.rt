@@ -115,14 +115,14 @@ pub(crate) fn start_casts<S: Service, E: Broadcast, T: Tagger>(
     made: &mut Vec<Msg>,
 ) -> Result<(), Mem>
     ensures ok { let c = casts_by mode.now p.now me (T.tags t.now) E.rules in
-        OnOk result (StartsCasts (CastStandsAt mode.now E.stands) c (is_dropped_shown (S.shown service.now) p.now.n) (T.me t.now)
+        OnOk result (StartsCasts (CastStandsAt mode.now E.stands) c (is_dropped_shown mode.now.version (S.shown service.now) p.now.n) (T.me t.now)
         casts.old casts.new says.now made.old.items made.new.items) }
     ensures err { let c = casts_by mode.now p.now me (T.tags t.now) E.rules in
-        OnErr result (StartsFewer (CastStandsAt mode.now E.stands) (shown_by_cast E.shown) c (is_dropped_shown (S.shown service.now) p.now.n) (T.me t.now)
+        OnErr result (StartsFewer (CastStandsAt mode.now E.stands) (shown_by_cast E.shown) c (is_dropped_shown mode.now.version (S.shown service.now) p.now.n) (T.me t.now)
         casts.old casts.new says.now) }
 {
     for say in says {
-        let is_gone = is_dropped(service, p.n(), &say.slot);
+        let is_gone = is_dropped(mode.version, service, p.n(), &say.slot);
         start_cast(alloc, p, mode, me, t, casts, is_gone, say, made)?;
     }
     Ok(())

@@ -7,7 +7,7 @@ pub enum CoreFault {
     NotOrigin,
     /// The kind is for the origin alone, which this replica isn't.
     NotForMe,
-    /// The slot lies too far behind this command number or count of complete rounds.
+    /// The slot lies too far behind this command number or count of complete rounds. In version 3 no item is refused so.
     Past(u32),
     /// The slot lies too far ahead of this command number or count of complete rounds.
     Ahead(u32),

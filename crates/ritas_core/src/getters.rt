@@ -110,7 +110,8 @@ impl<S: Service, E: Broadcast, C: Coin + Drop, T: Tagger + Drop> Core<S, E, C, T
 
     /// What a slot delivered. `None` is answered exactly where it delivered nothing, and in root services 3 to 7 also where
     /// the slot is past: its round plus 2 is less than how many rounds are complete, or its command number plus 64 is less than
-    /// the least of its origin that isn't finished. In root services 1 and 2 every slot's delivery is answered.
+    /// the least of its origin that isn't finished. In root services 1 and 2, and in version 3 where no slot is past, every
+    /// slot's delivery is answered.
     ///
     /// It is so by the core's history, or, once the core is stopped, by that or by that with what the stop lost.
     pub fn delivered(&self, slot: &Slot) -> Option<&[u8]>
@@ -128,10 +129,11 @@ impl<S: Service, E: Broadcast, C: Coin + Drop, T: Tagger + Drop> Core<S, E, C, T
     }
 
     /// The broadcasts, by their slots. While the core isn't stopped, exactly those slots have one that aren't past and at which the
-    /// core took an item or started a broadcast, and each has delivered what its slot has.
+    /// core took an item or started a broadcast, and each has delivered what its slot has. In version 3 no slot is past, so every
+    /// slot that had such a call keeps its broadcast while the core lasts.
     ///
-    /// Those of class 4, and in root service 2 those of class 1, are `Other`. The others are `Plain` in version 1 of frames, and
-    /// `Digest` in version 2.
+    /// Those of class 4, and in root service 2 those of class 1, are `Other`. The others are `Plain` in version 1 of frames and
+    /// `Digest` in version 2; in version 3 those of class 5 are `Plain`, and the rest `Digest`.
     pub fn broadcasts(&self) -> &Tree<Cast<E>>
         ensures kept { let m = meaning S.stands S.rules S.shown E.stands E.rules E.shown C.bits T.me T.tags in
             (r : Rules) (st : CoreState) → CoreStands m self.now r st → st.live ≡ true → (s : Slot)

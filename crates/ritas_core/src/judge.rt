@@ -75,7 +75,7 @@ pub(crate) fn judge<S: Service, E: Broadcast, C: Coin + Drop, T: Tagger + Drop>(
         return Verdict::Refuse(fault);
     }
     let mark = layers.mark(&item.slot);
-    if is_behind(&item.slot, mark) {
+    if is_behind(layers.mode.version, &item.slot, mark) {
         return Verdict::Refuse(CoreFault::Past(mark));
     }
     if is_beyond(&item.slot, mark) {

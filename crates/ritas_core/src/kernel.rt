@@ -1,6 +1,8 @@
 //! One replica without its channels: each item, input and turn is checked, taken or held, and what becomes due goes out in order.
 
-ghost use Rattle.std.specs.Prelude.{◌≡◌, ◌<◌, ◌^◌};
+ghost use Rattle.std.specs.Prelude.{◌≡◌, ◌<◌, ◌^◌, if◌then◌else◌};
+ghost use Rattle.ritas_base.specs.Versions.{has_past};
+ghost use Rattle.instance_tree.specs.declared.span.Span.TheVariants.{Window, Session};
 ghost use Rattle.ritas_core.specs.Checks.{body_length};
 ghost use Rattle.ritas_core.specs.CoreCalls.{is_mem};
 
@@ -11,10 +13,10 @@ use crate::layers::Layers;
 use crate::steps::take_front;
 use crate::verdict::Verdict;
 use frame_codec::spelled;
-use instance_tree::Tree;
+use instance_tree::{Span, Tree};
 use layer_api::{Broadcast, Service};
 use ooc_buffers::{Held, HoldFault};
-use ritas_base::{Coin, Item, Mem, Mode, Msg, Params, Tagger};
+use ritas_base::{Coin, FrameVersion, Item, Mem, Mode, Msg, Params, Tagger};
 use std::alloc::Global;
 use std::collections::{BTreeMap, VecDeque};
 
@@ -33,6 +35,17 @@ fn length_of(item: &Item) -> u32
 {
     let len = item.value.as_slice().len() as u64;
     u32::try_from(10 + len).unwrap_or(u32::MAX)
+}
+
+/// How far apart the slots are of which broadcasts are kept: where nothing is past, those of the whole session are.
+fn span_of(version: FrameVersion) -> Span
+    ensures { result ≡ (if has_past version then Window else Session) }
+{
+    if version.has_past() {
+        Span::Window
+    } else {
+        Span::Session
+    }
 }
 
 /// Whether there was not enough memory.
@@ -59,7 +72,8 @@ impl<S: Service, E: Broadcast, C: Coin + Drop, T: Tagger + Drop> Core<S, E, C, T
     ///
     /// The tagger is the replica's, the service serves the mode's root service, and the form of the other broadcast, by
     /// which VECTs go and the commands of root service 2, is 2 in root service 2 or where VECT goes by echo broadcast, and
-    /// otherwise that of reliable broadcast in the mode's version of frames: 1 in version 1, 3 in version 2.
+    /// otherwise that of the reliable broadcast of VECTs in the mode's version of frames: 1 in version 1, 3 in versions 2
+    /// and 3.
     pub fn new(alloc: Global, p: Params, mode: Mode, me: u8, t: T, coin: C) -> Result<Self, Mem>
         requires below { me < p.n }
         requires own { T.me t ≡ me }
@@ -75,7 +89,7 @@ impl<S: Service, E: Broadcast, C: Coin + Drop, T: Tagger + Drop> Core<S, E, C, T
         ensures tagger { IfOk result (λ core. tagger_of core ≡ t) }
     {
         let held = Held::new(alloc, p.n())?;
-        let service = S::new(alloc, &p, me)?;
+        let service = S::new(alloc, &p, &mode, me)?;
         Ok(Core {
             layers: Layers {
                 params: p,
@@ -84,7 +98,7 @@ impl<S: Service, E: Broadcast, C: Coin + Drop, T: Tagger + Drop> Core<S, E, C, T
                 tagger: t,
                 coin,
                 service,
-                casts: Tree::new(alloc),
+                casts: Tree::new(alloc, span_of(mode.version)),
                 outputs: BTreeMap::new(alloc),
             },
             inbox: VecDeque::new(alloc),
@@ -232,16 +246,16 @@ impl<S: Service, E: Broadcast, C: Coin + Drop, T: Tagger + Drop> Core<S, E, C, T
     ///
     /// - `Stopped`: a step before was without memory.
     /// - `NotOrigin` and `NotForMe`: the kind's sender, or its receiver, is the slot's origin alone.
-    /// - `Past` and `Ahead`, with what the window is counted from: a command number at least 64 above the least of its
-    ///   origin that isn't finished, or more than 64 below it; a round more than 4 above the number of complete rounds,
-    ///   or more than 2 below it.
+    /// - `Past`, in versions 1 and 2 alone, and `Ahead`, with what the window is counted from. `Past`: a command number more
+    ///   than 64 below the least of its origin that isn't finished, or a round more than 2 below the number of complete
+    ///   rounds. `Ahead`: a command number at least 64 above that, or a round more than 4 above that.
     /// - `Repeat`, an answer: one of its sender, slot and kind was taken or is held; a column that isn't open, where it is
     ///   held; an open column, where it brings nothing new.
     /// - Where it isn't open, `HeldFull`, with the sender's held bytes, if these and its own are more than 1,048,576, and
     ///   else the answer `Held`.
     ///
     /// Otherwise the answer is `Took`: the messages for all and for oneself join the inbox, then the held items that are
-    /// open now do, by peer and in their order, and held items that are past are dropped.
+    /// open now do, by peer and in their order, and held items that are past are dropped, which none is in version 3.
     ///
     /// `Mem` comes only while an item is held or taken. `out` is then as before. Where the item was to be held, the core
     /// is as before too; otherwise it is stopped, and keeps what waits and what is held.

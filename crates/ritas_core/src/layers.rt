@@ -23,8 +23,8 @@ use ritas_base::{
 use std::alloc::Global;
 use std::collections::BTreeMap;
 
-/// The service of a replica, the broadcasts of those slots that aren't past, and what they are given. In root services 1 and
-/// 2, which show what every slot delivered, that is kept by itself.
+/// The service of a replica, the broadcasts of those slots that aren't past, and what they are given. In version 3 no slot is
+/// past. In root services 1 and 2, which show what every slot delivered, that is kept by itself.
 #[derive(Drop)]
 pub struct Layers<S: Service, E: Broadcast, C: Coin + Drop, T: Tagger + Drop> {
     pub(crate) params: Params,
@@ -101,7 +101,12 @@ impl<S: Service, E: Broadcast, C: Coin + Drop, T: Tagger + Drop> Layers<S, E, C,
             OnErr result (StartsFewerSaid m self.old self.new says.now) }
         ensures rest { ChangesCasts self.old self.new }
     {
-        drop_past(&self.service, self.params.n(), &mut self.casts);
+        drop_past(
+            self.mode.version,
+            &self.service,
+            self.params.n(),
+            &mut self.casts,
+        );
         start_casts(
             alloc,
             &self.params,
@@ -206,18 +211,18 @@ impl<S: Service, E: Broadcast, C: Coin + Drop, T: Tagger + Drop> Layers<S, E, C,
         self.service.is_open(&item.slot) && is_ready(&self.casts, item)
     }
 
-    /// Whether a slot is past.
+    /// Whether a slot is past. In version 3 none is.
     pub(crate) fn is_past(&self, slot: &Slot) -> bool
         ensures rules { (p : Parts) → LayersStand (meaning S.stands S.rules S.shown E.stands E.rules E.shown C.bits T.me T.tags) self.now p
             → result ≡ is_past_in (meaning S.stands S.rules S.shown E.stands E.rules E.shown C.bits T.me T.tags) self.now p slot.now }
-        ensures shown { result ≡ is_past_shown (S.shown self.now.service) self.now.params.n slot.now }
+        ensures shown { result ≡ is_past_shown self.now.mode.version (S.shown self.now.service) self.now.params.n slot.now }
     {
-        slot.origin < self.params.n() && is_behind(slot, self.mark(slot))
+        slot.origin < self.params.n() && is_behind(self.mode.version, slot, self.mark(slot))
     }
 
     /// Whether what a slot delivered isn't shown any more: in root services 3 to 7 that of a past slot isn't.
     pub(crate) fn hides(&self, slot: &Slot) -> bool
-        ensures { result ≡ hides_shown (S.shown self.now.service) self.now.params.n self.now.mode.root slot.now }
+        ensures { result ≡ hides_shown self.now.mode (S.shown self.now.service) self.now.params.n slot.now }
     {
         !keeps_outputs(&self.mode) && self.is_past(slot)
     }
@@ -248,7 +253,9 @@ impl<S: Service, E: Broadcast, C: Coin + Drop, T: Tagger + Drop> Layers<S, E, C,
             return false;
         }
         let mark = self.mark(&item.slot);
-        !is_behind(&item.slot, mark) && !is_beyond(&item.slot, mark) && self.lets_in(item)
+        !is_behind(self.mode.version, &item.slot, mark)
+            && !is_beyond(&item.slot, mark)
+            && self.lets_in(item)
     }
 
     /// Why no input may be given now.

@@ -20,13 +20,13 @@ loop-say-preserved g c =
     let b = g.E.Broadcast in
     let t = g.T.Tagger in
     let rules = casts_by c.args.mode.now c.args.p.now c.args.me (t.tags c.args.t.now) b.rules in
-    let dropped : Slot → Bool = is_dropped_shown (g.S.Service.shown c.args.service.now) c.args.p.now.n in
+    let dropped : Slot → Bool = is_dropped_shown c.args.mode.now.version (g.S.Service.shown c.args.service.now) c.args.p.now.n in
     let says = c.args.says.now in
     let i = c.loop-say.say-index in
     let say = c.say-item.result in
     let more : take (i + 1) says ≡ take i says ++ say ∷ [] = take_more says i say c.loop-say-test.true ∙ ap (λ x. take i says ++ x ∷ []) (sym c.say-item.is) in
     let here : slice_get says i ≡ Some say = slice_get_read says (length says) i say refl c.loop-say-test.true c.say-item.is in
-    let gone : dropped say.slot ≡ c.is_dropped-is_gone.result = ap (λ (n : ℕ). is_dropped_shown (g.S.Service.shown c.args.service.now) n say.slot) (sym c.n.ensures.value) ∙ sym c.is_dropped-is_gone.ensures in
+    let gone : dropped say.slot ≡ c.is_dropped-is_gone.result = ap (λ (n : ℕ). is_dropped_shown c.args.mode.now.version (g.S.Service.shown c.args.service.now) n say.slot) (sym c.n.ensures.value) ∙ sym c.is_dropped-is_gone.ensures in
     let can : (h : Slot → List Call) → CanStartAll (CastStandsAt c.args.mode.now b.stands) rules dropped (t.me c.args.t.now) c.args.casts.now says h
     → CanStart (CastStandsAt c.args.mode.now b.stands) rules dropped (t.me c.args.t.now) c.loop-say.casts say (started_all (take i says) h) = λ h all.
     record { is_own = all.is_own; may = may_start_at rules says i say h here all.may; stood = c.loop-say.invariant.stands h all } in
@@ -50,12 +50,12 @@ returns-in_err-start_cast-clause-err g c =
     let b = g.E.Broadcast in
     let t = g.T.Tagger in
     let rules = casts_by c.args.mode.now c.args.p.now c.args.me (t.tags c.args.t.now) b.rules in
-    let dropped : Slot → Bool = is_dropped_shown (g.S.Service.shown c.args.service.now) c.args.p.now.n in
+    let dropped : Slot → Bool = is_dropped_shown c.args.mode.now.version (g.S.Service.shown c.args.service.now) c.args.p.now.n in
     let says = c.args.says.now in
     let i = c.loop-say.say-index in
     let say = c.say-item.result in
     let here : slice_get says i ≡ Some say = slice_get_read says (length says) i say refl c.loop-say-test.true c.say-item.is in
-    let gone : dropped say.slot ≡ c.is_dropped-is_gone.result = ap (λ (n : ℕ). is_dropped_shown (g.S.Service.shown c.args.service.now) n say.slot) (sym c.n.ensures.value) ∙ sym c.is_dropped-is_gone.ensures in
+    let gone : dropped say.slot ≡ c.is_dropped-is_gone.result = ap (λ (n : ℕ). is_dropped_shown c.args.mode.now.version (g.S.Service.shown c.args.service.now) n say.slot) (sym c.n.ensures.value) ∙ sym c.is_dropped-is_gone.ensures in
     on_err_here c.from_residual.result (λ h all s near.
     let can : CanStart (CastStandsAt c.args.mode.now b.stands) rules dropped (t.me c.args.t.now) c.loop-say.casts say (started_all (take i says) h) =
     record { is_own = all.is_own; may = may_start_at rules says i say h here all.may; stood = c.loop-say.invariant.stands h all } in

@@ -14,7 +14,7 @@ invariant-loop-say g l =
     let b = g.E.Broadcast in
     let t = g.T.Tagger in
     let c = casts_by l.fn.mode l.fn.p l.fn.me (t.tags l.fn.t) b.rules in
-    let dropped = is_dropped_shown (g.S.Service.shown l.fn.service) l.fn.p.n in
+    let dropped = is_dropped_shown l.fn.mode.version (g.S.Service.shown l.fn.service) l.fn.p.n in
     record {
       stands : (h : Slot → List Call) → CanStartAll (CastStandsAt l.fn.mode b.stands) c dropped (t.me l.fn.t) l.fn.casts l.says h → CastsStand (CastStandsAt l.fn.mode b.stands) c dropped l.casts (started_all (take l.say-index l.says) h);
       made : (h : Slot → List Call) → CanStartAll (CastStandsAt l.fn.mode b.stands) c dropped (t.me l.fn.t) l.fn.casts l.says h → l.made.items ≡ l.fn.made.items ++ start_news c (take l.say-index l.says) h;

@@ -8,18 +8,18 @@ use Rattle.instance_tree.proofs.origin.Origin.insert.Goals as goal
 
 pub insert-requires : goal.insert-requires
 insert-requires c =
-    absent_there place_in_origin (c.self.inside.commands ∷ c.self.inside.cells.items) c.args.self.now 0 c.args.slot c.self.invariant c.self.view_is
-    (command_place c.args.slot c.if-slot-eq1.true) c.requires
+    absent_there (place_in_origin c.self.inside.span) (c.self.inside.commands ∷ c.self.inside.cells.items) c.args.self.now 0 c.args.slot c.self.invariant c.self.view_is
+    (command_place c.self.inside.span c.args.slot c.if-slot-eq1.true) c.requires
 
 pub invariant_of-self : goal.invariant_of-self
 invariant_of-self c =
     let old = c.self.inside.commands in
     let new = c.insert.new.self in
     let ms = c.self.inside.cells.items in
-    either c.insert.result (new ≡ insert old c.args.slot c.args.key) (new ≡ old) (ArePlaced place_in_origin (new ∷ ms))
-    (λ is. placed_inserted place_in_origin (old ∷ ms) (new ∷ ms) 0 c.args.slot c.args.key c.self.invariant (command_place c.args.slot c.if-slot-eq1.true)
+    either c.insert.result (new ≡ insert old c.args.slot c.args.key) (new ≡ old) (ArePlaced (place_in_origin c.self.inside.span) (new ∷ ms))
+    (λ is. placed_inserted (place_in_origin c.self.inside.span) (old ∷ ms) (new ∷ ms) 0 c.args.slot c.args.key c.self.invariant (command_place c.self.inside.span c.args.slot c.if-slot-eq1.true)
     (changes_to (old ∷ ms) (new ∷ ms) 0 new _ (first_changes old new ms) is))
-    (λ is. placed_same place_in_origin (old ∷ ms) (new ∷ ms) c.self.invariant (first_same old new ms is))
+    (λ is. placed_same (place_in_origin c.self.inside.span) (old ∷ ms) (new ∷ ms) c.self.invariant (first_same old new ms is))
     c.insert.ensures.ok c.insert.ensures.err
 
 pub returns-then-slot-eq1-clause-ok : goal.returns-then-slot-eq1-clause-ok
@@ -28,15 +28,15 @@ returns-then-slot-eq1-clause-ok c =
     let new = c.insert.new.self in
     let ms = c.self.inside.cells.items in
     where_ok c.insert.result (new ≡ insert old c.args.slot c.args.key) _
-    (λ is. joined_inserted place_in_origin (old ∷ ms) (new ∷ ms) 0 c.args.slot c.args.key c.self.invariant (command_place c.args.slot c.if-slot-eq1.true)
+    (λ is. joined_inserted (place_in_origin c.self.inside.span) (old ∷ ms) (new ∷ ms) 0 c.args.slot c.args.key c.self.invariant (command_place c.self.inside.span c.args.slot c.if-slot-eq1.true)
     (changes_to (old ∷ ms) (new ∷ ms) 0 new _ (first_changes old new ms) is)
     ∙ ap (λ (m : SlotMap ℕ). insert m c.args.slot c.args.key) c.self.view_is)
     c.insert.ensures.ok
 
 pub insert_at-requires : goal.insert_at-requires
 insert_at-requires c =
-    absent_there place_in_origin (c.self.inside.commands ∷ c.self.inside.cells.items) c.args.self.now (suc c.cell_of.result) c.args.slot c.self.invariant
-    c.self.view_is (other_place c.args.slot c.cell_of.result c.if-slot-eq1.false c.cell_of.ensures) c.requires
+    absent_there (place_in_origin c.self.inside.span) (c.self.inside.commands ∷ c.self.inside.cells.items) c.args.self.now (suc c.cell_of.result) c.args.slot c.self.invariant
+    c.self.view_is (other_place c.self.inside.span c.args.slot c.cell_of.result c.if-slot-eq1.false c.cell_of.ensures) c.requires
 
 pub invariant_of-self-else-slot-eq1 : goal.invariant_of-self-else-slot-eq1
 invariant_of-self-else-slot-eq1 c =
@@ -44,10 +44,10 @@ invariant_of-self-else-slot-eq1 c =
     let old = c.self.inside.cells.items in
     let new = c.insert_at.new.buckets.items in
     let i = c.cell_of.result in
-    either c.insert_at.result (ChangesAt old new i (insert (map_at old i) c.args.slot c.args.key)) (AreSame old new) (ArePlaced place_in_origin (m ∷ new))
-    (λ changes. placed_inserted place_in_origin (m ∷ old) (m ∷ new) (suc i) c.args.slot c.args.key c.self.invariant
-    (other_place c.args.slot i c.if-slot-eq1.false c.cell_of.ensures) (rest_changes m old new i _ changes))
-    (λ same. placed_same place_in_origin (m ∷ old) (m ∷ new) c.self.invariant (rest_same m old new same))
+    either c.insert_at.result (ChangesAt old new i (insert (map_at old i) c.args.slot c.args.key)) (AreSame old new) (ArePlaced (place_in_origin c.self.inside.span) (m ∷ new))
+    (λ changes. placed_inserted (place_in_origin c.self.inside.span) (m ∷ old) (m ∷ new) (suc i) c.args.slot c.args.key c.self.invariant
+    (other_place c.self.inside.span c.args.slot i c.if-slot-eq1.false c.cell_of.ensures) (rest_changes m old new i _ changes))
+    (λ same. placed_same (place_in_origin c.self.inside.span) (m ∷ old) (m ∷ new) c.self.invariant (rest_same m old new same))
     c.insert_at.ensures.ok c.insert_at.ensures.err
 
 pub returns-else-slot-eq1-clause-ok : goal.returns-else-slot-eq1-clause-ok
@@ -57,8 +57,8 @@ returns-else-slot-eq1-clause-ok c =
     let new = c.insert_at.new.buckets.items in
     let i = c.cell_of.result in
     where_ok c.insert_at.result (ChangesAt old new i (insert (map_at old i) c.args.slot c.args.key)) _
-    (λ changes. joined_inserted place_in_origin (m ∷ old) (m ∷ new) (suc i) c.args.slot c.args.key c.self.invariant
-    (other_place c.args.slot i c.if-slot-eq1.false c.cell_of.ensures) (rest_changes m old new i _ changes)
+    (λ changes. joined_inserted (place_in_origin c.self.inside.span) (m ∷ old) (m ∷ new) (suc i) c.args.slot c.args.key c.self.invariant
+    (other_place c.self.inside.span c.args.slot i c.if-slot-eq1.false c.cell_of.ensures) (rest_changes m old new i _ changes)
     ∙ ap (λ (n : SlotMap ℕ). insert n c.args.slot c.args.key) c.self.view_is)
     c.insert_at.ensures.ok
 
@@ -68,4 +68,4 @@ returns-else-slot-eq1-clause-err c =
     let old = c.self.inside.cells.items in
     let new = c.insert_at.new.buckets.items in
     where_err c.insert_at.result (AreSame old new) _
-    (λ same. joined_same place_in_origin (m ∷ old) (m ∷ new) c.self.invariant (rest_same m old new same) ∙ c.self.view_is) c.insert_at.ensures.err
+    (λ same. joined_same (place_in_origin c.self.inside.span) (m ∷ old) (m ∷ new) c.self.invariant (rest_same m old new same) ∙ c.self.view_is) c.insert_at.ensures.err

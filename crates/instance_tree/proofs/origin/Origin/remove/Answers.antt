@@ -12,7 +12,7 @@ invariant_of-self c =
     let old = c.self.inside.cells.items in
     let new = c.remove_at.new.buckets.items in
     let i = c.cell_of.result in
-    placed_removed place_in_origin (m ∷ old) (m ∷ new) (suc i) c.args.slot.now c.self.invariant (other_place c.args.slot.now i c.requires c.cell_of.ensures)
+    placed_removed (place_in_origin c.self.inside.span) (m ∷ old) (m ∷ new) (suc i) c.args.slot.now c.self.invariant (other_place c.self.inside.span c.args.slot.now i c.requires c.cell_of.ensures)
     (rest_changes m old new i _ c.remove_at.ensures)
 
 pub returns : goal.returns
@@ -21,6 +21,6 @@ returns c =
     let old = c.self.inside.cells.items in
     let new = c.remove_at.new.buckets.items in
     let i = c.cell_of.result in
-    joined_removed place_in_origin (m ∷ old) (m ∷ new) (suc i) c.args.slot.now c.self.invariant (other_place c.args.slot.now i c.requires c.cell_of.ensures)
+    joined_removed (place_in_origin c.self.inside.span) (m ∷ old) (m ∷ new) (suc i) c.args.slot.now c.self.invariant (other_place c.self.inside.span c.args.slot.now i c.requires c.cell_of.ensures)
     (rest_changes m old new i _ c.remove_at.ensures)
     ∙ ap (λ (n : SlotMap ℕ). remove n c.args.slot.now) c.self.view_is

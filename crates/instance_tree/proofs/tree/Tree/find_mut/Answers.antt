@@ -1,5 +1,4 @@
-use Rattle.std.proofs.Common.{Some, refl, sym, ap, ◌∙◌, inl}
-use Rattle.std.specs.Option.{option_copied_mut}
+use Rattle.std.proofs.Common.{refl, sym, ◌∙◌, inl}
 use Rattle.instance_tree.proofs.Tied.{found_value, found_nothing, write_view, write_tied}
 use Rattle.instance_tree.proofs.tree.Tree.find_mut.Goals as goal
 

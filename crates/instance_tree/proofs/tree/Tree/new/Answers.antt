@@ -1,4 +1,3 @@
-use Rattle.std.proofs.Common.{sym}
 use Rattle.instance_tree.proofs.Tied.{empty_tied, empty_view}
 use Rattle.instance_tree.proofs.tree.Tree.new.Goals as goal
 

@@ -38,7 +38,7 @@ returns-clause-stands g c =
     let none : OutputsStand c.args.mode.root (rules_of m layers).casts c.new-4.result no_parts.calls = λ low s.
     empty s ∙ sym ((laws_at c.args.mode b.rules g.met.E.Broadcast.value_laws s).out_nothing (place_at (rules_of m layers).casts s) (rules_of m layers).casts.tags) in
     let stood : LayersStand m layers no_parts = record {
-      service = c.in_ok-service.ensures (seat_of (rules_of m layers)) refl refl;
+      service = c.in_ok-service.ensures (seat_of (rules_of m layers)) refl refl refl;
       casts = casts_nothing (CastStandsAt layers.mode m.cast_stands) (rules_of m layers).casts (is_dropped (rules_of m layers) []) layers.casts c.new-3.ensures;
     } in
     record {

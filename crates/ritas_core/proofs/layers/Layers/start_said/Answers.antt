@@ -7,7 +7,7 @@ returns-clause-ok g c =
     let old = c.args.self.now in
     on_ok_weaker c.start_casts.result (λ starts. record {
       left = c.drop_past.new.casts;
-      drops = dropped_by (g.S.Service.shown old.service) old.casts c.drop_past.new.casts c.n.result old.params.n c.n.ensures.value c.drop_past.ensures;
+      drops = dropped_by old.mode.version (g.S.Service.shown old.service) old.casts c.drop_past.new.casts c.n.result old.params.n c.n.ensures.value c.drop_past.ensures;
       starts = starts;
     }) c.start_casts.ensures.ok
 
@@ -16,6 +16,6 @@ returns-clause-err g c =
     let old = c.args.self.now in
     on_err_weaker c.start_casts.result (λ starts. record {
       left = c.drop_past.new.casts;
-      drops = dropped_by (g.S.Service.shown old.service) old.casts c.drop_past.new.casts c.n.result old.params.n c.n.ensures.value c.drop_past.ensures;
+      drops = dropped_by old.mode.version (g.S.Service.shown old.service) old.casts c.drop_past.new.casts c.n.result old.params.n c.n.ensures.value c.drop_past.ensures;
       starts = starts;
     }) c.start_casts.ensures.err
