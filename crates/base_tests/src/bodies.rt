@@ -1,4 +1,4 @@
-//! Tests of `frame_codec`: bodies in both versions, which are read and written again, and inputs. `cases` has those
+//! Tests of `frame_codec`: bodies in each version, which are read and written again, and inputs. `cases` has those
 //! that are refused.
 
 use frame_codec::{LONGEST_ENTRY, body_len, input_fault, read_body, write_body};
@@ -30,10 +30,11 @@ fn comes_back(alloc: Global, root: u8, version: FrameVersion, bytes: &[u8]) -> O
     Some(item.from == 2 && written.as_slice() == bytes)
 }
 
-// Of each form of a payload: a value, a bit, a list of identifiers, and a digest.
+// Of each form of a payload: a value, a bit, and a list of identifiers. In version 3 a command's value is answered, as in version 2,
+// and the ECHO of a step carries the bit, as in version 1.
 #[test]
 fn bodies_that_are_items(rt: HostRuntime) {
-    let cases: [(u8, FrameVersion, &[u8]); 7] = [
+    let cases: [(u8, FrameVersion, &[u8]); 9] = [
         (1, FrameVersion::One, b"\x01\x01\0\0\0\0\0\0\0\0a"),
         (3, FrameVersion::One, b"\x01\x05\0\0\0\0\0\x01\x03\0\x02"),
         (6, FrameVersion::One, b"\x01\x02\0\0\0\0\0\0\0\0\0\0\0\0\0"),
@@ -41,6 +42,8 @@ fn bodies_that_are_items(rt: HostRuntime) {
         (7, FrameVersion::One, b"\x01\x03\0\0\0\0\0\0\0\0"),
         (7, FrameVersion::One, b"\x01\x03\0\0\0\0\0\0\0\0\0\0\0\0\0"),
         (1, FrameVersion::Two, b"\x08\x01\0\0\0\0\0\0\0\0a"),
+        (1, FrameVersion::Three, b"\x08\x01\0\0\0\0\0\0\0\0a"),
+        (3, FrameVersion::Three, b"\x02\x05\0\0\0\0\0\x01\x03\0\x02"),
     ];
     for (root, version, bytes) in cases {
         assert!(rt;

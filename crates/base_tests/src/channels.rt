@@ -1,6 +1,8 @@
-//! Tests of `keyed_channel`: a channel in both versions, with the states of its keys.
+//! Tests of `keyed_channel`: a channel in each version, with the states of its keys.
 
-use crate::dealt::{SLOT, dealt, digest_of_abc, known_entry, known_frame, known_frame_2};
+use crate::dealt::{
+    SLOT, dealt, digest_of_abc, known_entry, known_frame, known_frame_2, known_frame_3,
+};
 use keyed_channel::{Channel, LazyFrame, Opened};
 use ritas_base::{Bytes, FrameVersion, Mem, Tagger};
 use std::alloc::Global;
@@ -26,6 +28,8 @@ fn a_channel_seals(rt: HostRuntime) -> Result<(), Fail> {
     assert!(rt; frame.as_slice() == known_frame());
     let frame = sealed(&rt, rt.alloc(), FrameVersion::Two)?;
     assert!(rt; frame.as_slice() == known_frame_2());
+    let frame = sealed(&rt, rt.alloc(), FrameVersion::Three)?;
+    assert!(rt; frame.as_slice() == known_frame_3());
     Ok(())
 }
 
@@ -57,6 +61,8 @@ fn a_channel_opens(rt: HostRuntime) -> Result<(), Fail> {
     let receiver = channel(&rt, rt.alloc(), 1, FrameVersion::Two)?;
     assert!(rt; opens(&old, known_frame()));
     assert!(rt; opens(&receiver, known_frame_2()));
+    let receiver = channel(&rt, rt.alloc(), 1, FrameVersion::Three)?;
+    assert!(rt; opens(&receiver, known_frame_3()));
     Ok(())
 }
 
@@ -99,6 +105,7 @@ fn a_lazy_frame(rt: HostRuntime) -> Result<(), Fail> {
     for (version, bytes, other) in [
         (FrameVersion::One, known_frame(), known_frame_2()),
         (FrameVersion::Two, known_frame_2(), known_frame()),
+        (FrameVersion::Three, known_frame_3(), known_frame_2()),
     ] {
         let frame = lazily(&rt, rt.alloc(), version)?;
         let receiver = channel(&rt, rt.alloc(), 1, version)?;

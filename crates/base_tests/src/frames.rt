@@ -1,6 +1,6 @@
-//! Tests of `keyed_channel`: frames in both versions, and the parts of those that nobody opened.
+//! Tests of `keyed_channel`: frames in each version, and the parts of those that nobody opened.
 
-use crate::dealt::{dealt, front, known_frame, known_frame_2};
+use crate::dealt::{dealt, front, known_frame, known_frame_2, known_frame_3};
 use keyed_channel::{
     FrameHeader, HEAD_LEN, Keys, OpenFault, Opened, frame_header, frame_parts, open_frame, seal,
 };
@@ -27,6 +27,8 @@ fn frames_are_sealed(rt: HostRuntime) -> Result<(), Fail> {
     assert!(rt; frame.as_slice() == known_frame());
     let frame = sealed(&rt, rt.alloc(), FrameVersion::Two)?;
     assert!(rt; frame.as_slice() == known_frame_2());
+    let frame = sealed(&rt, rt.alloc(), FrameVersion::Three)?;
+    assert!(rt; frame.as_slice() == known_frame_3());
     Ok(())
 }
 
@@ -51,7 +53,7 @@ fn fault_of(keys: &Keys, bytes: &[u8]) -> Option<OpenFault> {
     }
 }
 
-// A session of version 2 has frames of its own, and opens none of version 1.
+// A session of each version has frames of its own, and opens none of another.
 #[test]
 fn frames_open(rt: HostRuntime) {
     let old = dealt(&rt, 1);
@@ -59,6 +61,9 @@ fn frames_open(rt: HostRuntime) {
     assert!(rt; opens(&old, known_frame()));
     assert!(rt; opens(&receiver, known_frame_2()));
     assert!(rt; fault_of(&receiver, known_frame()) == Some(OpenFault::Version));
+    let receiver = old.with_version(FrameVersion::Three);
+    assert!(rt; opens(&receiver, known_frame_3()));
+    assert!(rt; fault_of(&receiver, known_frame_2()) == Some(OpenFault::Version));
 }
 
 // The keys of a replica of 4, all of which are one.

@@ -1,5 +1,5 @@
 -- What the values of right lines keep to, and what columns of such lines say.
-use Rattle.std.proofs.Common.{◌≡◌, ◌⊎◌, ℕ, zero, suc, ◌+◌, ◌-◌, ◌*◌, ◌/◌, ◌%◌, ◌<◌, ◌≤◌, ◌==◌, ◌&&◌, Bool, true, false, nat_le, List, [], ◌∷◌, ◌++◌, length, take, drop, replicate, Option, Some, None, option_map, Result, Ok, Err, refl, sym, ◌∙◌, ap, subst, arith, codes, inl, inr, if◌then◌else◌}
+use Rattle.std.proofs.Common.{◌≡◌, ◌↔◌, ℕ, zero, suc, ◌+◌, ◌-◌, ◌*◌, ◌/◌, ◌%◌, ◌<◌, ◌≤◌, ◌==◌, ◌&&◌, Bool, true, false, nat_le, List, [], ◌∷◌, ◌++◌, length, take, drop, replicate, Option, Some, None, option_map, Result, Ok, Err, refl, sym, ◌∙◌, ap, subst, arith, codes, inl, inr, if◌then◌else◌}
 use Rattle.std.specs.List.{AllByRecursion}
 use Rattle.std.specs.Str.{bytes_eq}
 use Rattle.std.proofs.lemmas.Bool.{and_parts, leb-true, eqb-true, eq-eqb, both_ways}
@@ -14,7 +14,7 @@ use Rattle.ritas_base.specs.Numbers.{Numbers}
 use Rattle.ritas_base.specs.RootServices.{most_root}
 use Rattle.ritas_base.specs.Slots.{is_atomic}
 use Rattle.ritas_base.specs.declared.mode.FrameVersion.{FrameVersion}
-use Rattle.ritas_base.specs.declared.mode.FrameVersion.TheVariants.{One, Two}
+use Rattle.ritas_base.specs.declared.mode.FrameVersion.TheVariants.{One, Two, Three}
 use Rattle.cluster_config.specs.declared.requests.Request.{Request}
 use Rattle.cluster_config.specs.declared.submit.SubmitConfig.{SubmitConfig}
 use Rattle.cluster_config.specs.declared.watch.WatchConfig.{WatchConfig}
@@ -323,40 +323,57 @@ plan_fits text x is =
     })
 
 -- ---- versions
--- what is read of a line of versions
-version_of : (value : List ℕ) (version : FrameVersion) → version_in value ≡ Some version → ((value ≡ codes "1") × (version ≡ One)) ⊎ ((value ≡ codes "2") × (version ≡ Two))
-version_of value version e = go (bytes_eq value (codes "1")) refl (bytes_eq value (codes "2")) refl e
-  where
-    go : (a : Bool) → bytes_eq value (codes "1") ≡ a → (b : Bool) → bytes_eq value (codes "2") ≡ b → (if a then Some One else (if b then Some Two else None)) ≡ Some version
-        → ((value ≡ codes "1") × (version ≡ One)) ⊎ ((value ≡ codes "2") × (version ≡ Two))
-    go true one b two f = inl ((bytes_eq-Decides value (codes "1")).0 one, sym (the_one One version f))
-    go false one true two f = inr ((bytes_eq-Decides value (codes "2")).0 two, sym (the_one Two version f))
-    go false one false two f = absurd cc
+-- the digit that names a version, and the first line of its texts
+abbrev digit : FrameVersion → ℕ
+digit One = 49
+digit Two = 50
+digit Three = 51
 
--- no text begins with both
+abbrev line : FrameVersion → List ℕ
+line version = codes "ritas " ++ digit version ∷ 10 ∷ []
+
+-- the version that a digit names
+abbrev of_digit : ℕ → FrameVersion
+of_digit d = if d == 50 then Two else if d == 51 then Three else One
+
+again : (version : FrameVersion) → of_digit (digit version) ≡ version
+again One = refl
+again Two = refl
+again Three = refl
+
+-- what is read of a line of versions
+version_of : (value : List ℕ) (version : FrameVersion) → version_in value ≡ Some version → value ≡ digit version ∷ []
+version_of value version e = go (bytes_eq value (codes "1")) refl (bytes_eq value (codes "2")) refl (bytes_eq value (codes "3")) refl e
+  where
+    is : (d : ℕ) (v : FrameVersion) → bytes_eq value (d ∷ []) ≡ true → digit v ≡ d → Some v ≡ Some version → value ≡ digit version ∷ []
+    is d v same names f =
+        (bytes_eq-Decides value (d ∷ [])).0 same ∙ ap (λ (k : ℕ). k ∷ []) (sym names ∙ ap digit (the_one v version f))
+
+    go : (a : Bool) → bytes_eq value (codes "1") ≡ a → (b : Bool) → bytes_eq value (codes "2") ≡ b → (c : Bool) → bytes_eq value (codes "3") ≡ c
+        → (if a then Some One else (if b then Some Two else (if c then Some Three else None))) ≡ Some version → value ≡ digit version ∷ []
+    go true one b two c three f = is 49 One one refl f
+    go false one true two c three f = is 50 Two two refl f
+    go false one false two true three f = is 51 Three three refl f
+    go false one false two false three f = absurd cc
+
+-- no text begins with the lines of two versions
 abbrev seventh : List ℕ → ℕ
 seventh (a ∷ b ∷ c ∷ d ∷ e ∷ f ∷ g ∷ text) = g
 seventh _ = 0
 
-not_both : (text : List ℕ) → StartsWith (codes "ritas 1\n") text → StartsWith (codes "ritas 2\n") text → ⊥
-not_both text one two = let same : 49 ≡ 50 = ap seventh (sym one.1 ∙ two.1) in absurd (omega (arith, same))
+one_version : (text : List ℕ) (v w : FrameVersion) → StartsWith (line v) text → StartsWith (line w) text → v ≡ w
+one_version text v w one other =
+    let same : digit v ≡ digit w = ap seventh (sym one.1 ∙ other.1) in
+    sym (again v) ∙ ap of_digit same ∙ again w
 
 -- a text whose first line is of a version
 first_says : (text rest : List ℕ) (version : FrameVersion) → BeginsWith (codes "ritas") version_in version rest text → IsVersionOf text version
-first_says text rest version begins = elim (version_of begins.value version begins.reads) [
-  | inl is ↦
-      let starts : StartsWith (codes "ritas 1\n") text = (rest, begins.whole ∙ ap (λ (l : List ℕ). codes "ritas" ++ 32 ∷ l ++ 10 ∷ rest) is.0) in
-      record {
-        first = (λ one. starts, λ here. is.1);
-        second = (λ two. let same : One ≡ Two = sym is.1 ∙ two in absurd cc, λ other. absurd (not_both text starts other));
-      }
-  | inr is ↦
-      let starts : StartsWith (codes "ritas 2\n") text = (rest, begins.whole ∙ ap (λ (l : List ℕ). codes "ritas" ++ 32 ∷ l ++ 10 ∷ rest) is.0) in
-      record {
-        first = (λ one. let same : Two ≡ One = sym is.1 ∙ one in absurd cc, λ other. absurd (not_both text other starts));
-        second = (λ two. starts, λ here. is.1);
-      }
-]
+first_says text rest version begins =
+    let value = version_of begins.value version begins.reads in
+    let starts : StartsWith (line version) text = (rest, begins.whole ∙ ap (λ (l : List ℕ). codes "ritas" ++ 32 ∷ l ++ 10 ∷ rest) value) in
+    let both : (w : FrameVersion) → (version ≡ w) ↔ StartsWith (line w) text =
+    λ w. (λ is. subst (λ (v : FrameVersion). StartsWith (line v) text) is starts, one_version text version w starts) in
+    record { first = both One; second = both Two; third = both Three }
 
 drive_first : (text : List ℕ) (x : Planned) → IsText drive_column x text → IsVersionOf text x.version
 unfolding drive_column session_lines numbers_lines

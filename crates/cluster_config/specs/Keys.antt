@@ -1,4 +1,4 @@
--- The configuration of keys that are to be dealt: its lines, in their order. The keys are those of either version of frames.
+-- The configuration of keys that are to be dealt: its lines, in their order. The keys are those of any version of frames.
 use Rattle.std.specs.Prelude.{codes, refl}
 use Rattle.cluster_config.specs.declared.keys.KeysConfig.{KeysConfig}
 use Rattle.cluster_config.specs.Values.{key_in}

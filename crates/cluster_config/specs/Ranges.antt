@@ -4,7 +4,7 @@ use Rattle.std.specs.List.{AllByRecursion}
 use Rattle.ritas_base.specs.Limits.{longest_payload}
 use Rattle.ritas_base.specs.Slots.{is_atomic}
 use Rattle.ritas_base.specs.declared.mode.FrameVersion.{FrameVersion}
-use Rattle.ritas_base.specs.declared.mode.FrameVersion.TheVariants.{One, Two}
+use Rattle.ritas_base.specs.declared.mode.FrameVersion.TheVariants.{One, Two, Three}
 use Rattle.cluster_config.specs.declared.submit.SubmitConfig.{SubmitConfig}
 use Rattle.cluster_config.specs.declared.watch.WatchConfig.{WatchConfig}
 use Rattle.cluster_config.specs.Drive.{Planned}
@@ -19,6 +19,7 @@ StartsWith front text = (rest : List ℕ) × (text ≡ front ++ rest)
 pub record IsVersionOf (text : List ℕ) (version : FrameVersion) : Type 0 where
   pub first : (version ≡ One) ↔ StartsWith (codes "ritas 1\n") text
   pub second : (version ≡ Two) ↔ StartsWith (codes "ritas 2\n") text
+  pub third : (version ≡ Three) ↔ StartsWith (codes "ritas 3\n") text
 
 -- a plan: each command is given to at least one replica, and to no more than there are
 pub record FitsPlan (x : Planned) : Type 0 where

@@ -2,7 +2,7 @@
 use Rattle.std.specs.Prelude.{◌≡◌, ℕ, List, [], ◌∷◌, ◌++◌, codes, replicate, Some, None, Ok, Err, refl}
 use Rattle.clap.proofs.OnLiterals.{clap_on_literals}
 use Rattle.hex.specs.Hex.{decode_pairs}
-use Rattle.ritas_base.specs.declared.mode.FrameVersion.TheVariants.{One, Two}
+use Rattle.ritas_base.specs.declared.mode.FrameVersion.TheVariants.{One, Two, Three}
 use Rattle.ritas_base.specs.declared.mode.Vect.TheVariants.{Echo}
 use Rattle.ritas_base.specs.declared.what.What.TheVariants.{Frames, Vectors}
 use Rattle.ritas_base.specs.declared.what.DriveWhat.TheVariants.{Schedule}
@@ -170,9 +170,13 @@ of_version_two : read_text drive_column (codes "ritas 2\n" ++ lines) ≡ Ok (rec
 unfolding read_text read_by drive_column session_lines numbers_lines copies_line field_at line_value_at line_at text_end_at decode_pairs
 of_version_two = refl
 
-of_version_three : read_text drive_column (codes "ritas 3\n" ++ lines) ≡ Err 1
+of_version_three : read_text drive_column (codes "ritas 3\n" ++ lines) ≡ Ok (record plan { version = Three })
 unfolding read_text read_by drive_column session_lines numbers_lines copies_line field_at line_value_at line_at text_end_at decode_pairs
 of_version_three = refl
+
+of_version_four : read_text drive_column (codes "ritas 4\n" ++ lines) ≡ Err 1
+unfolding read_text read_by drive_column session_lines numbers_lines copies_line field_at line_value_at line_at text_end_at decode_pairs
+of_version_four = refl
 
 -- what is said of copies: from one to all four
 one_copy : read_text drive_column (whole ++ codes "copies 1\n") ≡ Ok plan

@@ -1,4 +1,4 @@
--- The configuration of a request that is to be handed in: its lines, in their order. Requests are alike in both versions of frames.
+-- The configuration of a request that is to be handed in: its lines, in their order. Requests are alike in all versions of frames.
 use Rattle.std.specs.Prelude.{codes, refl}
 use Rattle.cluster_config.specs.declared.submit.SubmitConfig.{SubmitConfig}
 use Rattle.cluster_config.specs.Values.{address_in, request_of_line, version_in}

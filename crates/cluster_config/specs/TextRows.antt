@@ -1,7 +1,7 @@
 -- Worked rows of the texts of keys, of a replica, of all replicas and of a request, where there is one replica.
 use Rattle.std.specs.Prelude.{◌≡◌, ℕ, true, false, List, [], ◌∷◌, ◌++◌, codes, replicate, flat_map, Ok, Err, refl}
 use Rattle.hex.specs.Hex.{decode_pairs}
-use Rattle.ritas_base.specs.declared.mode.FrameVersion.TheVariants.{One, Two}
+use Rattle.ritas_base.specs.declared.mode.FrameVersion.TheVariants.{One, Two, Three}
 use Rattle.ritas_base.specs.declared.mode.Vect.TheVariants.{Echo, Reliable}
 use Rattle.cluster_config.specs.Lines.{line_at, text_end_at, line_value_at, field_at}
 use Rattle.cluster_config.specs.Columns.{lines_of, lines_up_to, read_by, read_text}
@@ -29,14 +29,18 @@ keys : read_text keys_column (front ++ codes "master " ++ key ++ codes "\n") ≡
 unfolding read_text read_by keys_column session_lines numbers_lines field_at line_value_at line_at text_end_at decode_pairs
 keys = refl
 
--- the same keys in a session of version 2, and no other versions
+-- the same keys in sessions of versions 2 and 3, and no other versions
 keys_of_two : read_text keys_column (codes "ritas 2\n" ++ session_7 ++ codes "master " ++ key ++ codes "\n") ≡ Ok (record { session = 7; p = record { n = 1; f = 0 }; master = replicate 32 0 })
 unfolding read_text read_by keys_column session_lines numbers_lines field_at line_value_at line_at text_end_at decode_pairs
 keys_of_two = refl
 
-keys_of_three : read_text keys_column (codes "ritas 3\nsession 7\n") ≡ Err 1
-unfolding read_text read_by keys_column session_lines numbers_lines field_at line_value_at line_at text_end_at
+keys_of_three : read_text keys_column (codes "ritas 3\n" ++ session_7 ++ codes "master " ++ key ++ codes "\n") ≡ Ok (record { session = 7; p = record { n = 1; f = 0 }; master = replicate 32 0 })
+unfolding read_text read_by keys_column session_lines numbers_lines field_at line_value_at line_at text_end_at decode_pairs
 keys_of_three = refl
+
+keys_of_four : read_text keys_column (codes "ritas 4\nsession 7\n") ≡ Err 1
+unfolding read_text read_by keys_column session_lines numbers_lines field_at line_value_at line_at text_end_at
+keys_of_four = refl
 
 keys_alone : read_text keys_column front ≡ Err 5
 unfolding read_text read_by keys_column session_lines numbers_lines field_at line_value_at line_at text_end_at
@@ -88,6 +92,11 @@ node = refl
 node_of_two : read_text node_column (codes "ritas 2\n" ++ node_keys ++ node_back) ≡ Ok (record one_node { version = Two })
 unfolding read_text read_by node_column session_lines numbers_lines lines_of journal_line field_at line_value_at line_at text_end_at decode_pairs
 node_of_two = refl
+
+-- and of version 3
+node_of_three : read_text node_column (codes "ritas 3\n" ++ node_keys ++ node_back) ≡ Ok (record one_node { version = Three })
+unfolding read_text read_by node_column session_lines numbers_lines lines_of journal_line field_at line_value_at line_at text_end_at decode_pairs
+node_of_three = refl
 
 -- what is said of a journal
 with_journal : read_text node_column (node_front ++ node_back ++ codes "journal yes\n") ≡ Ok (record one_node { journal = true })
@@ -173,6 +182,11 @@ cluster_of_two : read_text cluster_column (codes "ritas 2\n" ++ cluster_back ++ 
 unfolding read_text read_by cluster_column session_lines numbers_lines lines_of lines_up_to field_at line_value_at line_at text_end_at decode_pairs
 cluster_of_two = refl
 
+-- and of version 3
+cluster_of_three : read_text cluster_column (codes "ritas 3\n" ++ cluster_back ++ codes "request 0 1 2 -\nrequest 0 1 3 0a\n") ≡ Ok (record one_cluster { version = Three })
+unfolding read_text read_by cluster_column session_lines numbers_lines lines_of lines_up_to field_at line_value_at line_at text_end_at decode_pairs
+cluster_of_three = refl
+
 limit_zero : read_text cluster_column (front ++ codes "root 6\nvect echo\nmaster " ++ key ++ codes "\npeer 10.0.0.1:4000\nlimit 0\n") ≡ Err 9
 unfolding read_text read_by cluster_column session_lines numbers_lines lines_of field_at line_value_at line_at text_end_at decode_pairs
 limit_zero = refl
@@ -194,15 +208,20 @@ submit : read_text submit_column (codes "ritas 1\nn 1\nf 0\npeer 10.0.0.1:4000\n
 unfolding read_text read_by submit_column numbers_lines lines_of field_at line_value_at line_at text_end_at
 submit = refl
 
--- a request of a session of version 2, and of no other version
+-- requests of sessions of versions 2 and 3, and of no other version
 submit_of_two : read_text submit_column (codes "ritas 2\nn 1\nf 0\npeer 10.0.0.1:4000\nrequest 0 1 2 -\n")
     ≡ Ok (record { p = record { n = 1; f = 0 }; peers = codes "10.0.0.1:4000" ∷ []; request = record { at = 0; client = 1; request = 2; payload = [] } })
 unfolding read_text read_by submit_column numbers_lines lines_of field_at line_value_at line_at text_end_at
 submit_of_two = refl
 
-submit_of_three : read_text submit_column (codes "ritas 3\nn 1\n") ≡ Err 1
-unfolding read_text read_by submit_column numbers_lines field_at line_value_at line_at text_end_at
+submit_of_three : read_text submit_column (codes "ritas 3\nn 1\nf 0\npeer 10.0.0.1:4000\nrequest 0 1 2 -\n")
+    ≡ Ok (record { p = record { n = 1; f = 0 }; peers = codes "10.0.0.1:4000" ∷ []; request = record { at = 0; client = 1; request = 2; payload = [] } })
+unfolding read_text read_by submit_column numbers_lines lines_of field_at line_value_at line_at text_end_at
 submit_of_three = refl
+
+submit_of_four : read_text submit_column (codes "ritas 4\nn 1\n") ≡ Err 1
+unfolding read_text read_by submit_column numbers_lines field_at line_value_at line_at text_end_at
+submit_of_four = refl
 
 no_request : read_text submit_column (codes "ritas 1\nn 1\nf 0\npeer 10.0.0.1:4000\n") ≡ Err 5
 unfolding read_text read_by submit_column numbers_lines lines_of field_at line_value_at line_at text_end_at
@@ -219,7 +238,7 @@ session = refl
 
 -- ---- a log that is to be watched
 
--- of a session of either version
+-- of a session of any version
 watch : read_text watch_column (codes "ritas 1\nn 1\nf 0\npeer 10.0.0.1:4000\nuntil 3\n")
     ≡ Ok (record { p = record { n = 1; f = 0 }; peers = codes "10.0.0.1:4000" ∷ []; until = 3 })
 unfolding read_text read_by watch_column numbers_lines lines_of field_at line_value_at line_at text_end_at
@@ -229,6 +248,11 @@ watch_of_two : read_text watch_column (codes "ritas 2\nn 1\nf 0\npeer 10.0.0.1:4
     ≡ Ok (record { p = record { n = 1; f = 0 }; peers = codes "10.0.0.1:4000" ∷ []; until = 3 })
 unfolding read_text read_by watch_column numbers_lines lines_of field_at line_value_at line_at text_end_at
 watch_of_two = refl
+
+watch_of_three : read_text watch_column (codes "ritas 3\nn 1\nf 0\npeer 10.0.0.1:4000\nuntil 3\n")
+    ≡ Ok (record { p = record { n = 1; f = 0 }; peers = codes "10.0.0.1:4000" ∷ []; until = 3 })
+unfolding read_text read_by watch_column numbers_lines lines_of field_at line_value_at line_at text_end_at
+watch_of_three = refl
 
 -- at least one row is waited for
 until_zero : read_text watch_column (codes "ritas 1\nn 1\nf 0\npeer 10.0.0.1:4000\nuntil 0\n") ≡ Err 5

@@ -6,7 +6,7 @@ use Rattle.hex.specs.Hex.{decode_of, decode_sized}
 use Rattle.ritas_base.specs.Limits.{longest_payload}
 use Rattle.ritas_base.specs.Numbers.{Numbers}
 use Rattle.ritas_base.specs.declared.mode.FrameVersion.{FrameVersion}
-use Rattle.ritas_base.specs.declared.mode.FrameVersion.TheVariants.{One, Two}
+use Rattle.ritas_base.specs.declared.mode.FrameVersion.TheVariants.{One, Two, Three}
 use Rattle.ritas_base.specs.declared.mode.Vect.{Vect}
 use Rattle.ritas_base.specs.declared.mode.Vect.TheVariants.{Echo, Reliable}
 use Rattle.ritas_base.specs.declared.plan.Order.{Order}
@@ -104,7 +104,9 @@ request_of_line n text = do
 
 -- a version of frames
 abbrev pub version_in : List ℕ → Option FrameVersion
-version_in text = if bytes_eq text (codes "1") then Some One else (if bytes_eq text (codes "2") then Some Two else None)
+version_in text = if bytes_eq text (codes "1") then Some One
+    else (if bytes_eq text (codes "2") then Some Two
+    else (if bytes_eq text (codes "3") then Some Three else None))
 
 abbrev pub vect_in : List ℕ → Option Vect
 vect_in text = if bytes_eq text (codes "echo") then Some Echo else (if bytes_eq text (codes "reliable") then Some Reliable else None)

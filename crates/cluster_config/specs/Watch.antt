@@ -1,5 +1,5 @@
 -- The configuration of whoever watches a session's log: its lines, in their order. Queries and pieces are alike in
--- both versions of frames.
+-- all versions of frames.
 use Rattle.std.specs.Prelude.{codes, refl}
 use Rattle.cluster_config.specs.declared.watch.WatchConfig.{WatchConfig}
 use Rattle.cluster_config.specs.Values.{address_in, number_in, version_in}

@@ -19,7 +19,7 @@
 //!
 //! | Line | Value | drive | keys | node | cluster | submit | watch |
 //! |---|---|---|---|---|---|---|---|
-//! | `ritas` | the version of frames, 1 or 2 | x | x | x | x | x | x |
+//! | `ritas` | the version of frames, 1 to 3 | x | x | x | x | x | x |
 //! | `session` | 0 to 2^64 - 1 | x | x | x | x | | |
 //! | `n` | 1 to 31 | x | x | x | x | x | x |
 //! | `f` | n is at least 3f + 1 | x | x | x | x | x | x |
@@ -50,7 +50,7 @@
 //! every text, and `config_laws` says that it is so. A text is looked at to its end before memory is taken, so where memory is
 //! wanting the text is right. `config_ranges` says what a configuration that is read keeps to: the copies, the places below n, as
 //! many peers as replicas, the zeros behind a row's keys, and how many requests there are, of how many bytes. `config_versions` says
-//! that the version of frames is that of the first line. Keys, requests, queries and pieces are alike in both versions.
+//! that the version of frames is that of the first line. Keys, requests, queries and pieces are alike in all versions.
 #![tactic(auto)]
 
 mod cluster;

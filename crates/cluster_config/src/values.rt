@@ -100,6 +100,8 @@ pub(crate) fn version_in(text: &[u8]) -> Option<FrameVersion>
         Some(FrameVersion::One)
     } else if text == b"2".as_slice() {
         Some(FrameVersion::Two)
+    } else if text == b"3".as_slice() {
+        Some(FrameVersion::Three)
     } else {
         None
     }

@@ -1,10 +1,9 @@
 //! The head of a journal's file.
 ghost use Rattle.std.specs.Prelude.{◌≡◌, slice_index};
-ghost use Rattle.ritas_base.specs.Bytes.{version_byte};
 ghost use Rattle.schedule_file.specs.Spelling.{vect_byte};
 ghost use Rattle.event_journal.specs.Head.{head_of, keys_digest, place_text, session_text};
 
-use ritas_base::{FrameVersion, Mode, Params, Vect};
+use ritas_base::{Mode, Params, Vect};
 use sha2::{Digest, Sha256};
 
 fn vect_byte(vect: Vect) -> u8
@@ -13,15 +12,6 @@ fn vect_byte(vect: Vect) -> u8
     match vect {
         Vect::Echo => 1,
         Vect::Reliable => 2,
-    }
-}
-
-fn version_byte(version: FrameVersion) -> u8
-    ensures { result ≡ version_byte version }
-{
-    match version {
-        FrameVersion::One => 1,
-        FrameVersion::Two => 2,
     }
 }
 
@@ -42,7 +32,7 @@ fn place_bytes(p: Params, mode: Mode, me: u8) -> [u8; 6]
         p.f(),
         mode.root,
         vect_byte(mode.vect),
-        version_byte(mode.version),
+        mode.version.byte(),
         me,
     ]
 }

@@ -8,7 +8,7 @@ use Rattle.std.proofs.lemmas.List.{append-nil, nil_from_length, take_at, length-
 use Rattle.std.proofs.Math.Pow.{pow-lt}
 use Rattle.ritas_base.specs.Numbers.{Numbers, IsSession}
 use Rattle.ritas_base.specs.declared.mode.FrameVersion.{FrameVersion}
-use Rattle.ritas_base.specs.declared.mode.FrameVersion.TheVariants.{One, Two}
+use Rattle.ritas_base.specs.declared.mode.FrameVersion.TheVariants.{One, Two, Three}
 use Rattle.ritas_base.specs.declared.mode.Vect.{Vect}
 use Rattle.ritas_base.specs.declared.mode.Vect.TheVariants.{Echo, Reliable}
 use Rattle.schedule_file.specs.declared.fault.FileFault.{FileFault}
@@ -26,18 +26,22 @@ use Rattle.schedule_file.proofs.Spells.{Spells, Both, Nothing, as_spells, then_s
 use Rattle.schedule_file.proofs.FileSpells.{IsByte, AreBytes, byte_spells, bytes_spells, u32_spells, u64_spells}
 use Rattle.schedule_file.proofs.KeyRows.{row_is, filled_is}
 
-version_is : (b : ℕ) (one two : Bool) → (b == 1) ≡ one → (b == 2) ≡ two → (one || two) ≡ true → version_byte (version_by_byte b) ≡ b
-version_is b one true is-one is-two e = rw is-two (sym (eqb-true _ _ is-two))
-version_is b true false is-one is-other e = rw is-other (sym (eqb-true _ _ is-one))
-version_is b false false is-other is-none e = absurd cc
+version_is : (b : ℕ) (one two three : Bool) → (b == 1) ≡ one → (b == 2) ≡ two → (b == 3) ≡ three → (one || (two || three)) ≡ true
+    → version_byte (version_by_byte b) ≡ b
+version_is b one true three is-one is-two is-three e = rw is-two (sym (eqb-true _ _ is-two))
+version_is b one false true is-one is-other is-three e = rw (is-other, is-three) (sym (eqb-true _ _ is-three))
+version_is b true false false is-one is-other is-none e = rw (is-other, is-none) (sym (eqb-true _ _ is-one))
+version_is b false false false is-other is-another is-none e = absurd cc
 
 version_fits : (v : FrameVersion) → is_version (version_byte v) ≡ true
 version_fits One = refl
 version_fits Two = refl
+version_fits Three = refl
 
 version_again : (v : FrameVersion) → version_by_byte (version_byte v) ≡ v
 version_again One = refl
 version_again Two = refl
+version_again Three = refl
 
 abbrev pub IsStart : FrameVersion × ℕ → List ℕ → Type 0
 IsStart start text = (text ≡ start_text start.0 start.1) × (start.1 < 2 ^ 64)
@@ -48,7 +52,7 @@ start_spells = as_spells IsStart
     (then_spells u32_at _ u32_spells (λ m. guard_spells (m == 0x52495453) Magic _ (then_spells byte_at _ byte_spells (λ v. guard_spells (is_version v) Version _ (then_spells u64_at (λ session. Ok ((version_by_byte v, session.0), session.1)) u64_spells (λ session. done_spells (version_by_byte v, session)))))))
     (λ start text fits r.
     let v = r.second.1 in let s = v.second.1 in
-    let same = version_is v.value (v.value == 1) (v.value == 2) refl refl v.second.0 in
+    let same = version_is v.value (v.value == 1) (v.value == 2) (v.value == 3) refl refl refl v.second.0 in
     let made : IsStart (version_by_byte v.value, s.value) text = (rw (r.parts, r.first.0, eqb-true _ _ r.second.0, v.parts, v.first, same, s.parts, s.first.0, s.second.1, append-nil (to_be_bytes w64 s.value)) refl, s.first.1) in
     subst (λ (y : FrameVersion × ℕ). IsStart y text) s.second.0 made)
     (λ start text r.

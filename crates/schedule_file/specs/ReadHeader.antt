@@ -4,7 +4,7 @@ use Rattle.ritas_base.specs.Numbers.{Numbers}
 use Rattle.ritas_base.specs.RootServices.{most_root}
 use Rattle.ritas_base.specs.Slots.{within}
 use Rattle.ritas_base.specs.declared.mode.FrameVersion.{FrameVersion}
-use Rattle.ritas_base.specs.declared.mode.FrameVersion.TheVariants.{One, Two}
+use Rattle.ritas_base.specs.declared.mode.FrameVersion.TheVariants.{One, Two, Three}
 use Rattle.ritas_base.specs.declared.mode.Vect.{Vect}
 use Rattle.ritas_base.specs.declared.mode.Vect.TheVariants.{Echo, Reliable}
 use Rattle.schedule_file.specs.declared.fault.FileFault.{FileFault}
@@ -15,7 +15,7 @@ use Rattle.schedule_file.specs.declared.header.HeaderKeys.{HeaderKeys}
 use Rattle.schedule_file.specs.declared.header.HeaderKeys.TheVariants.{Master, Row}
 use Rattle.schedule_file.specs.Reading.{Spot, ◌>>=◌, test}
 use Rattle.schedule_file.specs.FileBytes.{byte_at, bytes_at, u32_at, u64_at}
-use Rattle.ritas_base.specs.Bytes.{zero_key, filled_row}
+use Rattle.ritas_base.specs.Bytes.{filled_row}
 
 -- What a header says: the session, the version of its frames, n and f, the root service, the broadcast of VECT, the mask of
 -- the correct replicas, and the keys.
@@ -35,12 +35,12 @@ heading h = record { session = h.session; version = h.mode.version; p = h.p; roo
 abbrev pub is_root : ℕ → Bool
 is_root root = within 1 most_root root
 
--- the versions of frames, which are the bytes 1 and 2
+-- the versions of frames, which are the bytes 1 to 3
 abbrev pub is_version : ℕ → Bool
-is_version b = b == 1 || b == 2
+is_version b = b == 1 || (b == 2 || b == 3)
 
 abbrev pub version_by_byte : ℕ → FrameVersion
-version_by_byte b = if b == 2 then Two else One
+version_by_byte b = if b == 2 then Two else if b == 3 then Three else One
 
 -- the magic word, the version, and the session
 unfoldable pub start_at : Spot → Result ((FrameVersion × ℕ) × Spot) FileFault

@@ -1,6 +1,6 @@
 -- Worked rows.
 use Rattle.std.specs.Prelude.{◌≡◌, ℕ, ◌*◌, List, [], ◌∷◌, ◌++◌, length, codes, replicate, take, Ok, Err, refl}
-use Rattle.ritas_base.specs.declared.mode.FrameVersion.TheVariants.{One, Two}
+use Rattle.ritas_base.specs.declared.mode.FrameVersion.TheVariants.{One, Two, Three}
 use Rattle.ritas_base.specs.declared.mode.Vect.TheVariants.{Echo}
 use Rattle.ritas_base.specs.declared.event.Event.TheVariants.{Frame, Input, Turn, Pass, Sealed}
 use Rattle.schedule_file.specs.declared.fault.FileFault.TheVariants as faults
@@ -48,16 +48,16 @@ other_magic : file_of (82 ∷ 73 ∷ 84 ∷ 88 ∷ []) ≡ Err faults.Magic
 unfolding file_of header_at start_at numbers_at root_at vect_at mask_at keys_at master_at event_at events_at kind_at replica_at pair_at frame_at input_read_at turn_at pass_at sealed_at text_at u16_at u32_at u64_at bytes_at byte_at end_at
 other_magic = refl
 
--- there is no version 0, and none past 2
+-- there is no version 0, and none past 3
 version_zero : file_of (82 ∷ 73 ∷ 84 ∷ 83 ∷ 0 ∷ []) ≡ Err faults.Version
 unfolding file_of header_at start_at numbers_at root_at vect_at mask_at keys_at master_at event_at events_at kind_at replica_at pair_at frame_at input_read_at turn_at pass_at sealed_at text_at u16_at u32_at u64_at bytes_at byte_at end_at
 version_zero = refl
 
-version_three : file_of (82 ∷ 73 ∷ 84 ∷ 83 ∷ 3 ∷ []) ≡ Err faults.Version
+version_four : file_of (82 ∷ 73 ∷ 84 ∷ 83 ∷ 4 ∷ []) ≡ Err faults.Version
 unfolding file_of header_at start_at numbers_at root_at vect_at mask_at keys_at master_at event_at events_at kind_at replica_at pair_at frame_at input_read_at turn_at pass_at sealed_at text_at u16_at u32_at u64_at bytes_at byte_at end_at
-version_three = refl
+version_four = refl
 
--- the two versions, each with session 7, read and written
+-- the three versions, each with session 7, read and written
 version_one : start_at (text_start (82 ∷ 73 ∷ 84 ∷ 83 ∷ 1 ∷ 0 ∷ 0 ∷ 0 ∷ 0 ∷ 0 ∷ 0 ∷ 0 ∷ 7 ∷ [])) ≡ Ok ((One, 7), record { at = 13; rest = [] })
 unfolding start_at u32_at u64_at bytes_at byte_at
 version_one = refl
@@ -66,16 +66,28 @@ version_two : start_at (text_start (82 ∷ 73 ∷ 84 ∷ 83 ∷ 2 ∷ 0 ∷ 0 �
 unfolding start_at u32_at u64_at bytes_at byte_at
 version_two = refl
 
+version_three : start_at (text_start (82 ∷ 73 ∷ 84 ∷ 83 ∷ 3 ∷ 0 ∷ 0 ∷ 0 ∷ 0 ∷ 0 ∷ 0 ∷ 0 ∷ 7 ∷ [])) ≡ Ok ((Three, 7), record { at = 13; rest = [] })
+unfolding start_at u32_at u64_at bytes_at byte_at
+version_three = refl
+
 text_one : start_text One 7 ≡ 82 ∷ 73 ∷ 84 ∷ 83 ∷ 1 ∷ 0 ∷ 0 ∷ 0 ∷ 0 ∷ 0 ∷ 0 ∷ 0 ∷ 7 ∷ []
 text_one = refl
 
 text_two : start_text Two 7 ≡ 82 ∷ 73 ∷ 84 ∷ 83 ∷ 2 ∷ 0 ∷ 0 ∷ 0 ∷ 0 ∷ 0 ∷ 0 ∷ 0 ∷ 7 ∷ []
 text_two = refl
 
+text_three : start_text Three 7 ≡ 82 ∷ 73 ∷ 84 ∷ 83 ∷ 3 ∷ 0 ∷ 0 ∷ 0 ∷ 0 ∷ 0 ∷ 0 ∷ 0 ∷ 7 ∷ []
+text_three = refl
+
 -- one replica of a session of version 2, and no event
 no_event_of_two : file_of (codes "RITS" ++ (2 ∷ replicate 8 0 ++ behind_start 1 1) ++ 0 ∷ []) ≡ Ok (record (heading_of 1 1) { version = Two }, [])
 unfolding file_of header_at start_at numbers_at root_at vect_at mask_at keys_at master_at event_at events_at kind_at replica_at pair_at frame_at input_read_at turn_at pass_at sealed_at text_at u16_at u32_at u64_at bytes_at byte_at end_at
 no_event_of_two = refl
+
+-- and of version 3
+no_event_of_three : file_of (codes "RITS" ++ (3 ∷ replicate 8 0 ++ behind_start 1 1) ++ 0 ∷ []) ≡ Ok (record (heading_of 1 1) { version = Three }, [])
+unfolding file_of header_at start_at numbers_at root_at vect_at mask_at keys_at master_at event_at events_at kind_at replica_at pair_at frame_at input_read_at turn_at pass_at sealed_at text_at u16_at u32_at u64_at bytes_at byte_at end_at
+no_event_of_three = refl
 
 -- no replica
 none : file_of (header_of 0 0) ≡ Err (faults.Header 13)

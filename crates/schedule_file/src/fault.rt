@@ -12,7 +12,7 @@ use std::alloc::AllocError;
 pub enum FileFault {
     /// The first four bytes aren't `RITS`.
     Magic,
-    /// The version is neither 1 nor 2.
+    /// The version is none of 1 to 3.
     Version,
     /// The header's field at this offset breaks its rule.
     Header(u32),

@@ -28,7 +28,7 @@
 //! | Offset | Field | Rule |
 //! |---|---|---|
 //! | 0 | magic | the bytes `RITS` |
-//! | 4 | version of the frames | 1 or 2 |
+//! | 4 | version of the frames | 1 to 3 |
 //! | 5 | session | 8 bytes |
 //! | 13 | n | 1 to 31 |
 //! | 14 | f | n is at least 3f + 1 |

@@ -40,6 +40,7 @@ fn read_start<S: Source>(
     let version = match pieces.byte(source)? {
         1 => FrameVersion::One,
         2 => FrameVersion::Two,
+        3 => FrameVersion::Three,
         _ => return Err(FileFault::Version),
     };
     let session = pieces.number64(source)?;

@@ -5,7 +5,6 @@ ghost use Rattle.std.specs.List.{concat};
 ghost use Rattle.std.specs.Int.{w32, to_be_bytes};
 ghost use Rattle.outside.specs.Writing.{Writes};
 ghost use Rattle.schedule_file.specs.ReadHeader.{heading};
-ghost use Rattle.ritas_base.specs.Bytes.{version_byte};
 ghost use Rattle.schedule_file.specs.Spelling.{event_text, header_text, keys_text, sized, start_text, vect_byte, IsSized};
 
 use crate::header::{Header, HeaderKeys};
@@ -47,21 +46,12 @@ fn write_both<K: Sink>(sink: &mut K, first: &[u8], second: &[u8]) -> Result<(), 
     write_all(sink, second)
 }
 
-fn version_byte(version: FrameVersion) -> u8
-    ensures { result ≡ version_byte version }
-{
-    match version {
-        FrameVersion::One => 1,
-        FrameVersion::Two => 2,
-    }
-}
-
 // The magic word, the version and the session.
 fn start_bytes(version: FrameVersion, session: u64) -> [u8; 13]
     ensures { result ≡ start_text version session }
 {
     let [s7, s6, s5, s4, s3, s2, s1, s0] = session.to_be_bytes();
-    let version = version_byte(version);
+    let version = version.byte();
     [
         b'R', b'I', b'T', b'S', version, s7, s6, s5, s4, s3, s2, s1, s0,
     ]

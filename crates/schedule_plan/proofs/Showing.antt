@@ -39,7 +39,7 @@ of_step : (p : Numbers) (root : ℕ) (s : Slot) (v : List ℕ) → s.class ≡ 5
 unfolding value
 of_step p root s v five is = rw five (other_is s.step v (rw five at is))
 
--- an INIT carries the slot's value, in both versions
+-- an INIT carries the slot's value, in every version
 value_of_init : (b : Bool) (p : Numbers) (root : ℕ) (s : Slot) (v : List ℕ) → Is (if b && false then digest else value p root s) v → Is (value p root s) v
 value_of_init true p root s v is = is
 value_of_init false p root s v is = is

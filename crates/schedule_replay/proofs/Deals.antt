@@ -6,7 +6,7 @@ use Rattle.std.proofs.lemmas.Nat.Bits.{bit_at_above}
 use Rattle.std.specs.Int.{bit_at}
 use Rattle.ritas_base.specs.declared.mode.Mode.{Mode}
 use Rattle.ritas_base.specs.declared.mode.FrameVersion.{FrameVersion}
-use Rattle.ritas_base.specs.declared.mode.FrameVersion.TheVariants.{One, Two}
+use Rattle.ritas_base.specs.declared.mode.FrameVersion.TheVariants.{One, Two, Three}
 use Rattle.ritas_base.specs.declared.mode.Vect.{Vect}
 use Rattle.ritas_base.specs.declared.mode.Vect.TheVariants.{Echo, Reliable}
 use Rattle.ritas_base.specs.Members.{has_member}
@@ -25,13 +25,14 @@ use Rattle.schedule_replay.specs.Layers.{broadcast_of, other_of, dealt_to, setti
 -- ---- the layers
 
 abbrev form_by : Bool → Vect → FrameVersion → ℕ
-form_by two vect version = cond two 2 (elim vect [ Echo ↦ 2 | Reliable ↦ reliable_form version ])
+form_by two vect version = cond two 2 (elim vect [ Echo ↦ 2 | Reliable ↦ reliable_form version 4 ])
 
 one_by : (two : Bool) (vect : Vect) (version : FrameVersion) → form_by two vect version ≢ 2 → form_by two vect version ≢ 3 → 1 ≡ form_by two vect version
 one_by true vect version not_two not_three = absurd (not_two refl)
 one_by false Echo version not_two not_three = absurd (not_two refl)
 one_by false Reliable One not_two not_three = refl
 one_by false Reliable Two not_two not_three = absurd (not_three refl)
+one_by false Reliable Three not_two not_three = absurd (not_three refl)
 
 form_at : (mode : Mode) → other_form mode ≢ 2 → other_form mode ≢ 3 → 1 ≡ other_form mode
 unfolding other_form

@@ -72,9 +72,9 @@ pub fn other_form(mode: &Mode) -> u8
     ensures { result ≡ other_form mode.now }
 {
     let of_vects = match (mode.vect, mode.version) {
-        (Vect::Echo, FrameVersion::One | FrameVersion::Two) => 2,
+        (Vect::Echo, FrameVersion::One | FrameVersion::Two | FrameVersion::Three) => 2,
         (Vect::Reliable, FrameVersion::One) => 1,
-        (Vect::Reliable, FrameVersion::Two) => 3,
+        (Vect::Reliable, FrameVersion::Two | FrameVersion::Three) => 3,
     };
     match mode.service() {
         RootService::Echo => 2,

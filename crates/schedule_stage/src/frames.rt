@@ -2,7 +2,6 @@
 ghost use Rattle.std.specs.Prelude.{◌≡◌, ◌≤◌, ◌<◌, ◌^◌, length, IfOk};
 ghost use Rattle.std.specs.List.{slice_get};
 ghost use Rattle.ritas_base.specs.declared.event.Event.TheVariants as events;
-ghost use Rattle.ritas_base.specs.Bytes.{version_byte};
 ghost use Rattle.schedule_file.specs.Spelling.{IsSized};
 ghost use Rattle.world_model.specs.Players.{thrown};
 
@@ -44,16 +43,6 @@ pub(crate) fn frame_event(to: u8, bytes: Bytes) -> Result<Event, Mem>
     Ok(Event::Frame { to, bytes })
 }
 
-// The first byte of a version's frames.
-fn version_byte(version: FrameVersion) -> u8
-    ensures { result ≡ version_byte version }
-{
-    match version {
-        FrameVersion::One => 1,
-        FrameVersion::Two => 2,
-    }
-}
-
 /// A frame of a version that nobody can open. The one error is want of memory.
 pub(crate) fn thrown(
     alloc: Global,
@@ -66,8 +55,7 @@ pub(crate) fn thrown(
     ensures is { IfOk result (λ bytes. bytes ≡ thrown version from to rest.now) }
     ensures short { IfOk result (λ bytes. length bytes < 2 ^ 16) }
 {
-    let first = version_byte(version);
-    let mut bytes = Vec::from_slice(alloc, &[first, from, to, 0, 0, 0, 0, 0, 0, 0, 0, 255])?;
+    let mut bytes = Vec::from_slice(alloc, &[version.byte(), from, to, 0, 0, 0, 0, 0, 0, 0, 0, 255])?;
     bytes.extend_from_slice(rest)?;
     Ok(Bytes::from_vec(bytes))
 }

@@ -1,14 +1,13 @@
--- The byte that a body begins with, and the item at the front of an inbox.
-use Rattle.std.proofs.Common.{◌≡◌, ◌≢◌, ℕ, ◌<◌, Bool, true, false, cond, ◌==◌, Option, Some, None, is_some, Ok, List, [], ◌∷◌, length, slice_index, slice_index_or, refl, ◌∙◌, ap, ap₂, subst, arith}
+-- The bytes that a body begins with, and the item at the front of an inbox.
+use Rattle.std.proofs.Common.{◌≡◌, ◌≢◌, ℕ, ◌<◌, Bool, true, false, cond, ◌==◌, ◌&&◌, ◌||◌, Option, Some, None, is_some, Ok, List, [], ◌∷◌, length, slice_index, slice_index_or, refl, ◌∙◌, ap, ap₂, subst, arith}
 use Rattle.std.specs.List.{slice_get}
-use Rattle.std.proofs.lemmas.Bool.{eqb-true}
 use Rattle.std.proofs.lemmas.Option.{slice_get-get_or}
 use Rattle.ritas_base.specs.declared.item.Item.{Item}
 use Rattle.ritas_base.specs.declared.item.Kind.{Kind}
 use Rattle.ritas_base.specs.declared.item.Kind.TheVariants as kinds
 use Rattle.ritas_base.specs.declared.mode.Mode.{Mode}
 use Rattle.ritas_base.specs.declared.mode.FrameVersion.{FrameVersion}
-use Rattle.ritas_base.specs.declared.mode.FrameVersion.TheVariants.{One, Two}
+use Rattle.ritas_base.specs.declared.mode.FrameVersion.TheVariants.{One, Two, Three}
 use Rattle.ritas_base.specs.declared.slot.Slot.{Slot}
 use Rattle.ritas_base.specs.Slots.{by_echo, form_of}
 use Rattle.ritas_base.specs.Versions.{reliable_form}
@@ -23,71 +22,75 @@ use Rattle.ritas_core.specs.Stands.{Meaning}
 use Rattle.replica.specs.declared.replica.Replica.{Replica}
 use Rattle.world_model.specs.World.{Setting, rules_at}
 use Rattle.world_model.specs.Stands.{IsReplica, ReplicasStand}
-use Rattle.world_model.specs.Watch.{is_watched, watched, is_watched_byte, IsGoodIf}
+use Rattle.world_model.specs.Watch.{is_watched, watched, is_watched_start, IsGoodIf}
 use Rattle.world_model.specs.Steps.{IsInboxFront}
 
 -- ---- bodies
 
--- in version 1 reliable broadcast hashes nothing, and in version 2 what it takes of values
-by_byte_one : (echo : Bool) (kind : Kind) → is_of_form (cond echo 2 1) kind ≡ true → is_watched_byte One (kind_byte kind) ≡ is_watched (cond echo 2 1) kind
-by_byte_one true kinds.Init of_form = absurd (cc)
-by_byte_one true kinds.Echo of_form = refl
-by_byte_one true kinds.Ready of_form = refl
-by_byte_one true kinds.Send of_form = refl
-by_byte_one true kinds.Hashes of_form = refl
-by_byte_one true kinds.Column of_form = refl
-by_byte_one true kinds.Want of_form = refl
-by_byte_one true kinds.Value of_form = absurd (cc)
-by_byte_one false kinds.Init of_form = refl
-by_byte_one false kinds.Echo of_form = refl
-by_byte_one false kinds.Ready of_form = refl
-by_byte_one false kinds.Send of_form = absurd (cc)
-by_byte_one false kinds.Hashes of_form = refl
-by_byte_one false kinds.Column of_form = refl
-by_byte_one false kinds.Want of_form = refl
-by_byte_one false kinds.Value of_form = absurd (cc)
+-- whether the audit looks at items of the kind with this byte, where the slot's reliable broadcast has this form
+abbrev by_kind : ℕ → ℕ → Bool
+by_kind form byte = (byte == 4 || byte == 6) || ((byte == 1 || byte == 8) && form == 3)
 
-by_byte_two : (echo : Bool) (kind : Kind) → is_of_form (cond echo 2 3) kind ≡ true → is_watched_byte Two (kind_byte kind) ≡ is_watched (cond echo 2 3) kind
-by_byte_two true kinds.Init of_form = absurd (cc)
-by_byte_two true kinds.Echo of_form = refl
-by_byte_two true kinds.Ready of_form = refl
-by_byte_two true kinds.Send of_form = refl
-by_byte_two true kinds.Hashes of_form = refl
-by_byte_two true kinds.Column of_form = refl
-by_byte_two true kinds.Want of_form = refl
-by_byte_two true kinds.Value of_form = absurd (cc)
-by_byte_two false kinds.Init of_form = refl
-by_byte_two false kinds.Echo of_form = refl
-by_byte_two false kinds.Ready of_form = refl
-by_byte_two false kinds.Send of_form = absurd (cc)
-by_byte_two false kinds.Hashes of_form = refl
-by_byte_two false kinds.Column of_form = refl
-by_byte_two false kinds.Want of_form = refl
-by_byte_two false kinds.Value of_form = refl
+-- echo broadcast hashes a SEND, whatever the form of the other one
+by_echoes : (form : ℕ) (kind : Kind) → is_of_form 2 kind ≡ true → by_kind form (kind_byte kind) ≡ is_watched 2 kind
+by_echoes form kinds.Init of_form = absurd (cc)
+by_echoes form kinds.Echo of_form = refl
+by_echoes form kinds.Ready of_form = refl
+by_echoes form kinds.Send of_form = refl
+by_echoes form kinds.Hashes of_form = refl
+by_echoes form kinds.Column of_form = refl
+by_echoes form kinds.Want of_form = refl
+by_echoes form kinds.Value of_form = absurd (cc)
 
-by_byte : (version : FrameVersion) (echo : Bool) (kind : Kind) → is_of_form (cond echo 2 (reliable_form version)) kind ≡ true
-    → is_watched_byte version (kind_byte kind) ≡ is_watched (cond echo 2 (reliable_form version)) kind
-by_byte One echo kind of_form = by_byte_one echo kind of_form
-by_byte Two echo kind of_form = by_byte_two echo kind of_form
+-- reliable broadcast with values hashes nothing
+by_values : (kind : Kind) → is_of_form 1 kind ≡ true → by_kind 1 (kind_byte kind) ≡ is_watched 1 kind
+by_values kinds.Init of_form = refl
+by_values kinds.Echo of_form = refl
+by_values kinds.Ready of_form = refl
+by_values kinds.Send of_form = absurd (cc)
+by_values kinds.Hashes of_form = refl
+by_values kinds.Column of_form = refl
+by_values kinds.Want of_form = refl
+by_values kinds.Value of_form = absurd (cc)
 
-by_form : (mode : Mode) (s : Slot) (kind : Kind) → is_of_form (form_of mode s) kind ≡ true → is_watched_byte mode.version (kind_byte kind) ≡ is_watched (form_of mode s) kind
+-- and with digests it hashes what it takes of values
+by_digests : (kind : Kind) → is_of_form 3 kind ≡ true → by_kind 3 (kind_byte kind) ≡ is_watched 3 kind
+by_digests kinds.Init of_form = refl
+by_digests kinds.Echo of_form = refl
+by_digests kinds.Ready of_form = refl
+by_digests kinds.Send of_form = absurd (cc)
+by_digests kinds.Hashes of_form = refl
+by_digests kinds.Column of_form = refl
+by_digests kinds.Want of_form = refl
+by_digests kinds.Value of_form = refl
+
+by_step : (step : Bool) (kind : Kind) → is_of_form (cond step 1 3) kind ≡ true → by_kind (cond step 1 3) (kind_byte kind) ≡ is_watched (cond step 1 3) kind
+by_step true kind of_form = by_values kind of_form
+by_step false kind of_form = by_digests kind of_form
+
+by_reliable : (version : FrameVersion) (class : ℕ) (kind : Kind) → is_of_form (reliable_form version class) kind ≡ true
+    → is_watched_start version (kind_byte kind) class ≡ is_watched (reliable_form version class) kind
+by_reliable One class kind of_form = by_values kind of_form
+by_reliable Two class kind of_form = by_digests kind of_form
+by_reliable Three class kind of_form = by_step (class == 5) kind of_form
+
+by_start : (version : FrameVersion) (class : ℕ) (echo : Bool) (kind : Kind) → is_of_form (cond echo 2 (reliable_form version class)) kind ≡ true
+    → is_watched_start version (kind_byte kind) class ≡ is_watched (cond echo 2 (reliable_form version class)) kind
+by_start version class true kind of_form = by_echoes (reliable_form version class) kind of_form
+by_start version class false kind of_form = by_reliable version class kind of_form
+
+by_form : (mode : Mode) (s : Slot) (kind : Kind) → is_of_form (form_of mode s) kind ≡ true → is_watched_start mode.version (kind_byte kind) s.class ≡ is_watched (form_of mode s) kind
 unfolding form_of
-by_form mode s kind of_form = by_byte mode.version (by_echo mode s) kind of_form
+by_form mode s kind of_form = by_start mode.version s.class (by_echo mode s) kind of_form
 
--- a body begins with its kind
-pub watched_byte : AnswersSpelled → AnswersGood → (p : Numbers) (mode : Mode) (from : ℕ) (body : List ℕ) (item : Item) (byte : ℕ) (result : Bool) → IsSession p → IsBytes body → body_answer p mode from body ≡ Ok item →
-    byte ≡ slice_index body 0 → result ≡ is_watched_byte mode.version byte → result ≡ is_watched (form_of mode item.slot) item.kind
-watched_byte spelled answered p mode from body item byte result session fits reads first is =
+-- a body begins with its kind, and then with the class of its slot
+pub watched_byte : AnswersSpelled → AnswersGood → (p : Numbers) (mode : Mode) (from : ℕ) (body : List ℕ) (item : Item) (byte class : ℕ) (result : Bool) → IsSession p → IsBytes body → body_answer p mode from body ≡ Ok item →
+    byte ≡ slice_index body 0 → class ≡ slice_index body 1 → result ≡ is_watched_start mode.version byte class → result ≡ is_watched (form_of mode item.slot) item.kind
+watched_byte spelled answered p mode from body item byte class result session fits reads first second is =
     let spells = spelled p mode from body item session fits reads in
     let here : byte ≡ kind_byte item.kind = first ∙ ap (λ (xs : List ℕ). slice_index xs 0) spells.is_spelling in
-    is ∙ ap (is_watched_byte mode.version) here ∙ by_form mode item.slot item.kind (answered p mode from body item session reads).0.kind
-
-pub no_body : AnswersSpelled → (p : Numbers) (mode : Mode) (from : ℕ) (body : List ℕ) (item : Item) → IsSession p → IsBytes body → body_answer p mode from body ≡ Ok item → (length body == 0) ≡ true → ⊥
-no_body spelled p mode from body item session fits reads none =
-    let spells = spelled p mode from body item session fits reads in
-    let empty : length body ≡ 0 = eqb-true (length body) 0 none in
-    let some : length body ≡ length (spelling item) = ap length spells.is_spelling in
-    absurd (omega (arith, empty, some))
+    let behind : class ≡ item.slot.class = second ∙ ap (λ (xs : List ℕ). slice_index xs 1) spells.is_spelling in
+    is ∙ ap₂ (is_watched_start mode.version) here behind ∙ by_form mode item.slot item.kind (answered p mode from body item session reads).0.kind
 
 -- ---- the front of an inbox
 

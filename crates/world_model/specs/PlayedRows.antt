@@ -1,7 +1,7 @@
 -- Worked rows of players: what steps make of a scene, and a frame that nobody made.
 use Rattle.std.specs.Prelude.{◌≡◌, ℕ, List, [], ◌∷◌, ◌++◌, length, replicate, None, true, refl}
 use Rattle.ritas_base.specs.declared.event.Event.TheVariants as events
-use Rattle.ritas_base.specs.declared.mode.FrameVersion.TheVariants.{One, Two}
+use Rattle.ritas_base.specs.declared.mode.FrameVersion.TheVariants.{One, Two, Three}
 use Rattle.frame_codec.specs.Inputs.{input_format}
 use Rattle.frame_codec.specs.Grammar.{class1}
 use Rattle.ritas_core.specs.Checks.{input_check}
@@ -67,6 +67,10 @@ thrown_bytes = refl
 -- and in a session of version 2
 thrown_of_two : thrown Two 3 0 (1 ∷ 2 ∷ []) ≡ 2 ∷ 3 ∷ 0 ∷ 0 ∷ 0 ∷ 0 ∷ 0 ∷ 0 ∷ 0 ∷ 0 ∷ 0 ∷ 255 ∷ 1 ∷ 2 ∷ []
 thrown_of_two = refl
+
+-- and of version 3
+thrown_of_three : thrown Three 3 0 (1 ∷ 2 ∷ []) ≡ 3 ∷ 3 ∷ 0 ∷ 0 ∷ 0 ∷ 0 ∷ 0 ∷ 0 ∷ 0 ∷ 0 ∷ 0 ∷ 255 ∷ 1 ∷ 2 ∷ []
+thrown_of_three = refl
 
 thrown_long : length (thrown One 3 0 (filled (1 ∷ 2 ∷ 3 ∷ 4 ∷ 5 ∷ 6 ∷ 7 ∷ 8 ∷ []))) ≡ 52
 thrown_long = refl

@@ -13,7 +13,7 @@ use Rattle.ritas_base.specs.declared.item.Kind.TheVariants.{Init, Echo, Ready, S
 use Rattle.ritas_base.specs.declared.mode.Mode.{Mode}
 use Rattle.ritas_base.specs.declared.mode.FrameVersion.{FrameVersion}
 use Rattle.ritas_base.specs.declared.mode.Vect.TheVariants.{Reliable}
-use Rattle.ritas_base.specs.declared.mode.FrameVersion.TheVariants.{One, Two}
+use Rattle.ritas_base.specs.declared.mode.FrameVersion.TheVariants.{One, Two, Three}
 use Rattle.layer_api.specs.Entries.{EntryInput, OfMessage, OfEntry}
 use Rattle.layer_api.specs.Service.{ServiceRules, Carries, Undecided, IsPart}
 use Rattle.command_log.specs.Rows.{count_origins, Row, command_rows}
@@ -31,6 +31,7 @@ use Rattle.replica.specs.Handling.{Frame, Turn}
 use Rattle.world_model.specs.declared.audit.Audit.TheVariants as audits
 use Rattle.world_model.specs.declared.seen.Seen.TheVariants as seen_as
 use Rattle.world_model.specs.World.{Setting, rules_at, call_of, states_of, seen_of}
+use Rattle.world_model.specs.Watch.{is_watched_start}
 use Rattle.world_model.specs.Audit.{newest_item, prints_in, clashes, broken_by, judged, has_too_many, audit_of}
 use Rattle.world_model.specs.OneValueEach.{input_at}
 use Rattle.world_model.specs.Agree.{OneIsPart}
@@ -177,6 +178,14 @@ by_reliable version = in_mode (record { root = 1; vect = Reliable; version = ver
 abbrev in_echoes : FrameVersion → Rules
 in_echoes version = in_mode (record { root = 2; vect = Reliable; version = version; low = lit≤ tt; high = lit≤ tt })
 
+-- and in root service 3, whose steps of binary consensus go by reliable broadcast
+abbrev in_steps : FrameVersion → Rules
+in_steps version = in_mode (record { root = 3; vect = Reliable; version = version; low = lit≤ tt; high = lit≤ tt })
+
+-- replica 2's INIT of the bit 1, at the first step
+abbrev bit : Item
+bit = record { from = 2; kind = Init; slot = record { class = 5; a = 0; attempt = 0; bround = 1; step = 1; origin = 2 }; value = 1 ∷ [] }
+
 abbrev of_kind : Kind → Item
 of_kind kind = record init { kind = kind }
 
@@ -189,6 +198,23 @@ init_not_hashed : prints_in (by_reliable One) (Took init ∷ []) ≡ []
 unfolding form_of by_echo
 init_not_hashed = refl
 
+-- in version 3 it is too, but not the INIT of a step of binary consensus, whose bit goes by values
+init_hashed_of_three : prints_in (by_reliable Three) (Took init ∷ []) ≡ OfMessage (7 ∷ []) (sha256 (7 ∷ [])) ∷ []
+unfolding form_of by_echo
+init_hashed_of_three = refl
+
+bit_hashed : prints_in (in_steps Two) (Took bit ∷ []) ≡ OfMessage (1 ∷ []) (sha256 (1 ∷ [])) ∷ []
+unfolding form_of by_echo
+bit_hashed = refl
+
+bit_not_hashed : prints_in (in_steps Three) (Took bit ∷ []) ≡ []
+unfolding form_of by_echo
+bit_not_hashed = refl
+
+-- so the audit looks at a body that begins with INIT and class 1, and not at one with INIT and class 5
+starts_watched : (is_watched_start Three 1 1 ≡ true) × (is_watched_start Three 1 5 ≡ false) × (is_watched_start Two 1 5 ≡ true) × (is_watched_start One 1 1 ≡ false)
+starts_watched = (refl, refl, refl, refl)
+
 -- so is a VALUE, and an ECHO and a READY carry a digest
 value_hashed : prints_in (by_reliable Two) (Took (of_kind Value) ∷ []) ≡ OfMessage (7 ∷ []) (sha256 (7 ∷ [])) ∷ []
 unfolding form_of by_echo
@@ -198,10 +224,11 @@ votes_not_hashed : prints_in (by_reliable Two) (Took (of_kind Ready) ∷ Took (o
 unfolding form_of by_echo
 votes_not_hashed = refl
 
--- of a SEND each entry is hashed too, in either version: replica 0's for each of four, and each one's for replica 0
+-- of a SEND each entry is hashed too, in every version: replica 0's for each of four, and each one's for replica 0
 sends_hashed : (length (prints_in (in_echoes One) (Took (of_kind Send) ∷ [])) ≡ 9) × (length (prints_in (in_echoes Two) (Took (of_kind Send) ∷ [])) ≡ 9)
+    × (length (prints_in (in_echoes Three) (Took (of_kind Send) ∷ [])) ≡ 9)
 unfolding form_of by_echo
-sends_hashed = (refl, refl)
+sends_hashed = (refl, refl, refl)
 
 -- ---- inputs
 

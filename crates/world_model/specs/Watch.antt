@@ -7,8 +7,8 @@ use Rattle.ritas_base.specs.declared.item.Kind.{Kind}
 use Rattle.ritas_base.specs.declared.item.Kind.TheVariants.{Send, Column}
 use Rattle.ritas_base.specs.declared.mode.Mode.{Mode}
 use Rattle.ritas_base.specs.declared.mode.FrameVersion.{FrameVersion}
-use Rattle.ritas_base.specs.declared.mode.FrameVersion.TheVariants.{One, Two}
 use Rattle.ritas_base.specs.Slots.{form_of}
+use Rattle.ritas_base.specs.Versions.{reliable_form}
 use Rattle.ritas_base.specs.Messages.{kind_eq}
 use Rattle.frame_codec.specs.Body.{IsInGrammar}
 use Rattle.layer_api.specs.Entries.{sent, Print, is_hashed}
@@ -38,10 +38,10 @@ abbrev pub watched : Mode → Option Item → Option Item
 watched mode None = None
 watched mode (Some x) = if is_watched (form_of mode x.slot) x.kind then Some x else None
 
--- whether it looks at items whose bodies begin so: with SEND or COLUMN, and in version 2 with INIT or VALUE
-abbrev pub is_watched_byte : FrameVersion → ℕ → Bool
-is_watched_byte One byte = byte == 4 || byte == 6
-is_watched_byte Two byte = (byte == 4 || byte == 6) || (byte == 1 || byte == 8)
+-- whether it looks at items whose bodies begin so, with the byte of a kind and that of a slot's class: at SEND and COLUMN, and at
+-- INIT and VALUE where slots of this class go by digests
+abbrev pub is_watched_start : FrameVersion → ℕ → ℕ → Bool
+is_watched_start version kind class = (kind == 4 || kind == 6) || ((kind == 1 || kind == 8) && reliable_form version class == 3)
 
 abbrev pub IsGoodIf : Setting → Option Item → Type 0
 IsGoodIf w None = Unit {0}

@@ -11,8 +11,8 @@ pub enum Audit {
     /// correct replica that hadn't made it, or made one take a column with a valid entry of a correct replica that hadn't
     /// given it.
     Forged(u64),
-    /// The event of this number, from 0, is the first after which, among the SENDs, and in version 2 the INITs and VALUEs, that
-    /// correct replicas took so far, two different values have one digest, or among their SENDs two different entry inputs
+    /// The event of this number, from 0, is the first after which, among the SENDs, and the INITs and VALUEs at slots that go by
+    /// digests, that correct replicas took so far, two different values have one digest, or among their SENDs two different entry inputs
     /// have one entry.
     Collision(u64),
 }

@@ -15,7 +15,8 @@
 //! where at least n - f replicas are correct, and no event forges or collides. An event forges that gives a correct replica
 //! a frame which opens as from a correct one that hadn't made it, or makes it take a column with a valid entry of a correct
 //! replica that hadn't given it; it collides where then two different things that correct replicas hashed have one image: SENDs
-//! with their entries, and in version 2 of frames INITs and VALUEs.
+//! with their entries, and INITs and VALUEs at slots whose broadcast goes by digests: in version 2 of frames at all, and in version 3
+//! at all but the steps of binary consensus.
 //! Where the audit holds, correct replicas agree: on the value of each broadcast (`one_value_each`), and on logs, outcomes
 //! and decisions (`agreement_each`); `agreement` says so for a service and a broadcast beside the reliable one, whatever
 //! the keys and the coins are, and so does `World::audit` of each world. The laws speak also of worlds in which replicas

@@ -12,7 +12,7 @@ ghost use Rattle.keyed_channel.specs.Keyed.{tags_of};
 ghost use Rattle.ritas_core.specs.Machine.{CoreState};
 ghost use Rattle.ritas_core.specs.Stands.{meaning};
 ghost use Rattle.world_model.specs.World.{Setting};
-ghost use Rattle.world_model.specs.Watch.{is_watched, watched, is_watched_byte};
+ghost use Rattle.world_model.specs.Watch.{is_watched, watched, is_watched_start};
 ghost use Rattle.world_model.specs.Stands.{ReplicasStand};
 ghost use Rattle.world_model.specs.Steps.{is_took, IsInboxFront, IsFrameItem};
 
@@ -101,13 +101,16 @@ pub(crate) fn front_item<S: Service, E: Broadcast, C: Coin + Drop>(
     }
 }
 
-// Whether the audit looks at items whose bodies begin so.
-fn is_watched_byte(version: FrameVersion, byte: u8) -> bool
-    ensures { result ≡ is_watched_byte version byte }
+// Whether the audit looks at items whose bodies begin so: with the byte of a kind, and with that of a slot's class.
+fn is_watched_start(version: FrameVersion, kind: u8, class: u8) -> bool
+    ensures { result ≡ is_watched_start version kind class }
 {
     match version {
-        FrameVersion::One => byte == 4 || byte == 6,
-        FrameVersion::Two => (byte == 4 || byte == 6) || (byte == 1 || byte == 8),
+        FrameVersion::One => kind == 4 || kind == 6,
+        FrameVersion::Two => (kind == 4 || kind == 6) || (kind == 1 || kind == 8),
+        FrameVersion::Three => {
+            (kind == 4 || kind == 6) || ((kind == 1 || kind == 8) && class != 5)
+        }
     }
 }
 
@@ -117,10 +120,10 @@ fn is_watched_body(mode: &Mode, body: &[u8]) -> bool
         → body_answer p mode.now from body.now ≡ Ok item → result ≡ is_watched (form_of mode.now item.slot) item.kind }
 {
     spelled();
-    if body.is_empty() {
-        return false;
+    match body {
+        [kind, class, ..] => is_watched_start(mode.version, *kind, *class),
+        _ => false,
     }
-    is_watched_byte(mode.version, body[0])
 }
 
 // The item that a body spells, if it does and the audit looks at it. The one error is want of memory.

@@ -4,6 +4,7 @@ use Rattle.std.proofs.lemmas.Bool.{ne_eqb}
 use Rattle.ritas_base.specs.declared.mode.Mode.{Mode}
 use Rattle.ritas_base.specs.declared.mode.Vect.{Vect}
 use Rattle.ritas_base.specs.declared.mode.Vect.TheVariants.{Echo, Reliable}
+use Rattle.ritas_base.specs.declared.mode.FrameVersion.{FrameVersion}
 use Rattle.ritas_base.specs.declared.mode.FrameVersion.TheVariants.{One}
 use Rattle.ritas_base.specs.Versions.{reliable_form}
 use Rattle.ritas_core.specs.Rules.{other_form}
@@ -12,8 +13,8 @@ use Rattle.layer_tests.proofs.zeros.new_core.Goals as goal
 form_is : (mode : Mode) → eqb mode.root 2 ≡ false → mode.vect ≡ Reliable → mode.version ≡ One → other_form mode ≡ 1
 unfolding other_form
 form_is mode other vect version =
-    ap (λ (b : Bool). cond b 2 (elim mode.vect [ Echo ↦ 2 | Reliable ↦ reliable_form mode.version ])) other
-    ∙ (ap (λ (v : Vect). elim v [ Echo ↦ 2 | Reliable ↦ reliable_form mode.version ]) vect ∙ ap reliable_form version)
+    ap (λ (b : Bool). cond b 2 (elim mode.vect [ Echo ↦ 2 | Reliable ↦ reliable_form mode.version 4 ])) other
+    ∙ (ap (λ (v : Vect). elim v [ Echo ↦ 2 | Reliable ↦ reliable_form mode.version 4 ]) vect ∙ ap (λ (v : FrameVersion). reliable_form v 4) version)
 
 pub new-requires-in-Some-clause-form : goal.new-requires-in-Some-clause-form
 new-requires-in-Some-clause-form g c =
