@@ -157,7 +157,7 @@ impl<S: Service, E: Broadcast, C: Coin + Drop> House<S, E, C> {
     {
         let mut output = group.output(alloc);
         self.begin(alloc, item, &mut output)?;
-        gather(alloc, self, group, output)
+        gather(self, group, output)
     }
 
     /// A peer of a replica is asked to send again, and that joins the group. The one error is want of memory.
@@ -175,7 +175,7 @@ impl<S: Service, E: Broadcast, C: Coin + Drop> House<S, E, C> {
     {
         let mut output = group.output(alloc);
         self.remind(pair, &mut output);
-        gather(alloc, self, group, output)
+        gather(self, group, output)
     }
 
     /// Takes a turn at a replica, and it joins the group. The one error is want of memory.
@@ -188,7 +188,7 @@ impl<S: Service, E: Broadcast, C: Coin + Drop> House<S, E, C> {
     {
         let mut output = group.output(alloc);
         self.turn(alloc, at, &mut output)?;
-        gather(alloc, self, group, output)
+        gather(self, group, output)
     }
 
     /// Takes an item of the link, and it joins the group. The one error is want of memory.
@@ -210,6 +210,6 @@ impl<S: Service, E: Broadcast, C: Coin + Drop> House<S, E, C> {
     {
         let mut output = group.output(alloc);
         self.take(alloc, item, &mut output)?;
-        gather(alloc, self, group, output)
+        gather(self, group, output)
     }
 }
