@@ -8,6 +8,7 @@ use Rattle.std.proofs.lemmas.List.{length-set}
 use Rattle.std.proofs.lemmas.Option.{same_Some, slice_get-get_or}
 use Rattle.ritas_base.specs.declared.event.Event.{Event}
 use Rattle.ritas_base.specs.declared.mode.FrameVersion.{FrameVersion}
+use Rattle.ritas_base.specs.declared.mode.FrameVersion.TheVariants.{One, Two, Three}
 use Rattle.ritas_base.specs.declared.event.Event.TheVariants as events
 use Rattle.ritas_base.specs.declared.item.Item.{Item}
 use Rattle.frame_codec.specs.declared.fault.BodyFault.{BodyFault}
@@ -24,7 +25,7 @@ use Rattle.ritas_core.specs.Machine.{CoreState}
 use Rattle.ritas_core.specs.Rules.{Rules}
 use Rattle.ritas_core.specs.Stands.{Meaning}
 use Rattle.link_resume.specs.declared.kept.Kept.{Kept}
-use Rattle.link_resume.specs.Lists.{Keepings}
+use Rattle.link_resume.specs.Lists.{Keepings, all_but}
 use Rattle.outside.specs.declared.link.LinkItem.{LinkItem}
 use Rattle.outside.specs.declared.link.LinkItem.TheVariants as items
 use Rattle.replica.specs.declared.refusal.Refusal.{Refusal}
@@ -50,9 +51,9 @@ use Rattle.node_loop.specs.declared.waiting.Waiters.{Waiters}
 use Rattle.node_loop.specs.Waiting.{Waiting}
 use Rattle.node_loop.specs.Calls.{Outcome, event_called, silent, item_does, waiting_left_by, replies_by}
 use Rattle.node_loop.specs.Deeds.{Acked}
-use Rattle.node_loop.specs.Peers.{Peers, is_pair, with_list, with_mark, with_pending, keep_all}
+use Rattle.node_loop.specs.Peers.{Peers, is_pair, with_list, with_mark, with_pending, acknowledged, keep_all}
 use Rattle.node_loop.specs.PeersStanding.{AreKept, AreMarked, ArePending, IsKeeper}
-use Rattle.node_loop.specs.Resending.{Brought, nothing_more, mark_at, is_deferred, opened_so, noted_so, item_brings}
+use Rattle.node_loop.specs.Resending.{Brought, nothing_more, mark_at, is_deferred, opened_so, sends_batch, goes_on, acked_so, connected, noted_so, item_brings}
 use Rattle.node_loop.specs.Serving.{frames_made_by}
 use Rattle.node_loop.specs.Served.{AreHere}
 use Rattle.node_loop.specs.Standing.{HouseStands, ComesOut, IsEmptyOutput, IsMore, is_answer_opened, reply_by}
@@ -115,6 +116,45 @@ pending_elsewhere version n i at j pending keeper p other is = record {
     each = λ k within. is.pending.each k within ∙ sym (ap (λ (t : Bool). if t then pending else p.pending i k) (not_first at j i k other));
   };
 }
+
+-- whatever comes of an acknowledgement, or of a connection
+pub batch_elsewhere : (version : FrameVersion) (n i at j : ℕ) (after : Option ℕ) (end : ℕ) (keeper : Keeper) (p : Peers) → (i ≡ at → ⊥) → IsKeeper version n i keeper p
+    → IsKeeper version n i keeper (sends_batch at j after end p).peers
+batch_elsewhere version n i at j after end keeper p other is = pending_elsewhere version n i at j _ keeper p other is
+
+either_elsewhere : (version : FrameVersion) (n i : ℕ) (keeper : Keeper) (x y : Brought) (b : Bool) → IsKeeper version n i keeper x.peers → IsKeeper version n i keeper y.peers
+    → IsKeeper version n i keeper (if b then x else y).peers
+either_elsewhere version n i keeper x y true first second = first
+either_elsewhere version n i keeper x y false first second = second
+
+goes_on_elsewhere : (version : FrameVersion) (n i at j seq : ℕ) (pending : Option Pending) (keeper : Keeper) (p : Peers) → (i ≡ at → ⊥) → IsKeeper version n i keeper p
+    → IsKeeper version n i keeper (goes_on at j seq pending p).peers
+goes_on_elsewhere version n i at j seq None keeper p other is = is
+goes_on_elsewhere version n i at j seq (Some pending) keeper p other is =
+    either_elsewhere version n i keeper (sends_batch at j (Some seq) pending.end p) (nothing_more p) (pending.last == seq)
+    (batch_elsewhere version n i at j (Some seq) pending.end keeper p other is) is
+
+acked_by : (by version : FrameVersion) (n i at j seq : ℕ) (keeper : Keeper) (p : Peers) → (i ≡ at → ⊥) → IsKeeper version n i keeper (acknowledged at j seq p)
+    → IsKeeper version n i keeper (acked_so by at j seq p).peers
+acked_by One version n i at j seq keeper p other is = is
+acked_by Two version n i at j seq keeper p other is = is
+acked_by Three version n i at j seq keeper p other is = goes_on_elsewhere version n i at j seq (p.pending at j) keeper (acknowledged at j seq p) other is
+
+pub acked_elsewhere : (version : FrameVersion) (n i at j seq : ℕ) (keeper : Keeper) (p : Peers) → (i ≡ at → ⊥) → IsKeeper version n i keeper p
+    → IsKeeper version n i keeper (acked_so version at j seq p).peers
+acked_elsewhere version n i at j seq keeper p other is =
+    acked_by version version n i at j seq keeper p other (list_elsewhere version n i at j (all_but seq (p.keeping at j)) keeper p other is)
+
+connected_by : (by version : FrameVersion) (n i at j : ℕ) (keeper : Keeper) (p : Peers) → (i ≡ at → ⊥) → IsKeeper version n i keeper p
+    → IsKeeper version n i keeper (connected by at j p).peers
+connected_by One version n i at j keeper p other is = is
+connected_by Two version n i at j keeper p other is = is
+connected_by Three version n i at j keeper p other is = batch_elsewhere version n i at j None _ keeper p other is
+
+pub connected_elsewhere : (version : FrameVersion) (n i at j : ℕ) (b : Bool) (keeper : Keeper) (p : Peers) → (i ≡ at → ⊥) → IsKeeper version n i keeper p
+    → IsKeeper version n i keeper (if b then connected version at j p else nothing_more p).peers
+connected_elsewhere version n i at j b keeper p other is =
+    either_elsewhere version n i keeper (connected version at j p) (nothing_more p) b (connected_by version version n i at j keeper p other is) is
 
 -- a peer got a mark
 pub mark_there : (version : FrameVersion) (n at j : ℕ) (mark : Option Mark) (old new : Keeper) (p : Peers) → IsKeeper version n at old p → new ≡ record old { marks = new.marks }

@@ -1,5 +1,5 @@
 -- What a keeper answers that is to go out again to a peer.
-use Rattle.std.proofs.Common.{◌≡◌, ℕ, ◌==◌, ◌<◌, ◌≤◌, nat_lt, Bool, true, false, List, length, slice_index_or, slice_set, Option, Some, None, refl, sym, ◌∙◌, ap, ap₂, subst, arith, if◌then◌else◌}
+use Rattle.std.proofs.Common.{◌≡◌, ◌⊎◌, inl, inr, ℕ, ◌==◌, ◌<◌, ◌≤◌, nat_lt, Bool, true, false, List, length, slice_index_or, slice_set, Option, Some, None, refl, sym, ◌∙◌, ap, ap₂, subst, arith, if◌then◌else◌}
 use Rattle.ritas_base.specs.declared.mode.FrameVersion.{FrameVersion}
 use Rattle.ritas_base.specs.declared.mode.FrameVersion.TheVariants.{One, Two, Three}
 use Rattle.link_resume.specs.declared.kept.Kept.{Kept}
@@ -38,6 +38,10 @@ pub answers_part : (w : Setting) (i peer : ℕ) (part : Part) (keeper : Keeper) 
     → Answers w i keeper (mores.Kept peer part) (resends i peer part p)
 answers_part w i peer part keeper p is below = record { stands = is; more = (below, refl) }
 
+-- the same part by another name
+pub more_part : (w : Setting) (i peer : ℕ) (part other : Part) (p : Peers) → peer < w.numbers.n → part ≡ other → IsMore w i (mores.Kept peer part) (resends i peer other p)
+more_part w i peer part other p below same = subst (λ (x : Part). IsMore w i (mores.Kept peer part) (resends i peer x p)) same (below, refl)
+
 -- a batch
 pub answers_batch : (w : Setting) (i peer : ℕ) (after : Option ℕ) (end : ℕ) (pending : Option Pending) (old new : Keeper) (p : Peers)
     → IsKeeper w.mode.version w.numbers.n i old p → peer < w.numbers.n
@@ -68,6 +72,10 @@ taken_there version n i peer seq old new p is here rest took =
     subst (λ (k : Keeper). IsKeeper version n i k (acknowledged i peer seq p)) (sym (rest ∙ ap (λ (r : Keepings). record old { resume = r }) took)) now
 
 -- ---- by the version
+
+pub not_three : (version : FrameVersion) → (version ≡ One) ⊎ (version ≡ Two) → version ≡ Three → ⊥
+not_three version (inl one) three = let e = sym one ∙ three in cc
+not_three version (inr two) three = let e = sym two ∙ three in cc
 
 pub acked_earlier : (version : FrameVersion) (i j seq : ℕ) (p : Peers) → (version ≡ Three → ⊥) → acked_so version i j seq p ≡ nothing_more (acknowledged i j seq p)
 acked_earlier One i j seq p other = refl

@@ -230,14 +230,19 @@ impl Keeper {
         if usize::from(peer) >= self.resume.peers() {
             return More::Nothing;
         }
-        let part = match self.version {
-            FrameVersion::One | FrameVersion::Two => Part::All,
-            FrameVersion::Three => Part::Batch {
-                after: None,
-                last: self.newest(peer),
+        match self.version {
+            FrameVersion::One | FrameVersion::Two => More::Kept {
+                peer,
+                part: Part::All,
             },
-        };
-        More::Kept { peer, part }
+            FrameVersion::Three => {
+                let last = self.newest(peer);
+                More::Kept {
+                    peer,
+                    part: Part::Batch { after: None, last },
+                }
+            }
+        }
     }
 
     // The number of the newest frame that is kept for a peer; 0 where there is none.
