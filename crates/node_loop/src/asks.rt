@@ -319,12 +319,17 @@ impl<S: Service, E: Broadcast, C: Coin + Drop> House<S, E, C> {
         let Some(replica) = self.replicas.get(place) else {
             return;
         };
-        let Some(keeper) = self.keepers.get_mut(place) else {
-            return;
-        };
         match replica.channel().open_note(bytes) {
-            Some(Note::Ack { from, seq }) => output.more = keeper.acked(from, seq),
-            Some(Note::Again { from }) => output.more = keeper.again(from),
+            Some(Note::Ack { from, seq }) => {
+                if let Some(keeper) = self.keepers.get_mut(place) {
+                    output.more = keeper.acked(from, seq);
+                }
+            }
+            Some(Note::Again { from }) => {
+                if let Some(keeper) = self.keepers.get(place) {
+                    output.more = keeper.again(from);
+                }
+            }
             None => {}
         }
     }

@@ -11,8 +11,8 @@ use Rattle.node_loop.proofs.Hearing.{keeper_at, acked_elsewhere, one_keeper, com
 use Rattle.node_loop.proofs.Wishing.{in_house}
 use Rattle.node_loop.proofs.house.House.note.Goals as goal
 
-pub returns-in-Some-Ack-clause-comes : goal.returns-in-Some-Ack-clause-comes
-returns-in-Some-Ack-clause-comes g c = λ w es numbers ws p stand number clear.
+pub returns-in-Some-get_mut-clause-comes : goal.returns-in-Some-get_mut-clause-comes
+returns-in-Some-get_mut-clause-comes g c = λ w es numbers ws p stand number clear.
     let at = c.args.output.now.at in
     let from = c.in-Some-Ack.from in
     let seq = c.in-Some-Ack.seq in
@@ -24,16 +24,16 @@ returns-in-Some-Ack-clause-comes g c = λ w es numbers ws p stand number clear.
     let peer = ((c.noted_from_peer.ensures (w.keys at) c.args.bytes.now).0 from seq said).0 in
     let below : from < w.numbers.n = omega (arith, peer, is.stands.many) in
     let keeper = keeper_at _ w es numbers c.args.self.now ws p c.args.place at c.in-Some-get_mut.keeper.now stand number c.in-Some-get_mut.ensures.item.3.0 c.in-Some-get_mut.ensures.value in
-    let goes = c.acked.ensures.acked w at p keeper below in
+    let goes = c.acked-output.ensures.acked w at p keeper below in
     comes_with _ w es numbers _ _ _ (acked_so v at from seq p) (noted_so v at p (noted (w.keys at) c.args.bytes.now)) (sym (ap (noted_so v at p) said))
     (only_more _ w es numbers _ c.args.output.now _ ws (acked_so v at from seq p)
-    (one_keeper _ w es numbers c.args.self.now _ ws p (acked_so v at from seq p).peers c.args.place at c.in-Some-get_mut.keeper.now c.acked.new.self
+    (one_keeper _ w es numbers c.args.self.now _ ws p (acked_so v at from seq p).peers c.args.place at c.in-Some-get_mut.keeper.now c.acked-output.new.self
     stand number c.in-Some-get_mut.ensures.item.3.0 c.in-Some-get_mut.ensures.value refl refl refl goes.0
     (λ i k other it. acked_elsewhere v w.numbers.n i at from seq k p other it)) clear goes.1
     (λ faulty. absurd (both_ways (w.is_correct at) faulty is.correct)) refl refl refl refl refl)
 
-pub returns-in-Some-Again-clause-comes : goal.returns-in-Some-Again-clause-comes
-returns-in-Some-Again-clause-comes g c = λ w es numbers ws p stand number clear.
+pub returns-in-Some-get-clause-comes : goal.returns-in-Some-get-clause-comes
+returns-in-Some-get-clause-comes g c = λ w es numbers ws p stand number clear.
     let at = c.args.output.now.at in
     let from = c.in-Some-Again.from in
     let v = w.mode.version in
@@ -43,10 +43,10 @@ returns-in-Some-Again-clause-comes g c = λ w es numbers ws p stand number clear
     sym (c.open_note.ensures ∙ ap (λ (k : KeyRow). noted k c.args.bytes.now) keys) ∙ c.in-Some-Again.is ∙ ap (λ x. Some x) c.in-Some-Again.field-0-is in
     let peer = ((c.noted_from_peer.ensures (w.keys at) c.args.bytes.now).1 from said).0 in
     let below : from < w.numbers.n = omega (arith, peer, is.stands.many) in
-    let keeper = keeper_at _ w es numbers c.args.self.now ws p c.args.place at c.in-Some-get_mut.keeper.now stand number c.in-Some-get_mut.ensures.item.3.0 c.in-Some-get_mut.ensures.value in
+    let keeper = keeper_at _ w es numbers c.args.self.now ws p c.args.place at c.in-Some-get.keeper.now stand number c.in-Some-get.ensures.lookup.3.0 c.in-Some-get.ensures.lookup.1 in
     let brings = resends at from (front_of v (p.keeping at from)) p in
     comes_with _ w es numbers _ _ _ brings (noted_so v at p (noted (w.keys at) c.args.bytes.now)) (sym (ap (noted_so v at p) said))
-    (only_more _ w es numbers _ c.args.output.now _ ws brings stand clear (c.again.ensures.again w at p keeper below)
+    (only_more _ w es numbers _ c.args.output.now _ ws brings stand clear (c.again-output.ensures.again w at p keeper below)
     (λ faulty. absurd (both_ways (w.is_correct at) faulty is.correct)) refl refl refl refl refl)
 
 pub returns-in-None-clause-comes : goal.returns-in-None-clause-comes
@@ -64,7 +64,3 @@ returns-in_default-clause-comes g c = λ w es numbers ws p stand number clear.
     absurd
     (nowhere _ w es numbers c.deref.result.now c.args.place c.args.output.now.at
     (as_here _ w es numbers c.args.self.now.replicas.items c.deref.result.now c.deref.ensures.value stand.here) number c.in_default.ensures.lookup.3)
-
-pub returns-in_default-get_mut-clause-comes : goal.returns-in_default-get_mut-clause-comes
-returns-in_default-get_mut-clause-comes g c = λ w es numbers ws p stand number clear.
-    absurd (in_house _ w es numbers c.args.self.now ws p c.args.self.now.keepers.items c.args.place c.args.output.now.at stand refl number (ltb-false _ _ (sym c.in_default-get_mut.ensures.item.0)))

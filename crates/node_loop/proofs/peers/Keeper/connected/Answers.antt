@@ -1,4 +1,4 @@
-use Rattle.std.proofs.Common.{◌≡◌, ◌<◌, ◌≤◌, ℕ, nat_lt, refl, sym, ◌∙◌, ap, arith, if◌then◌else◌}
+use Rattle.std.proofs.Common.{◌≡◌, ◌<◌, ◌≤◌, ℕ, None, nat_lt, refl, sym, ◌∙◌, ap, arith, if◌then◌else◌}
 use Rattle.std.proofs.lemmas.Bool.{lt-ltb, le-ltb, cond-true, cond-false}
 use Rattle.ritas_base.specs.declared.mode.FrameVersion.TheVariants.{One, Two, Three}
 use Rattle.node_loop.specs.declared.output.Part.TheVariants as parts_are
@@ -23,7 +23,7 @@ returns-in-Three c = record {
       let end = c.newest-end.ensures ∙ ap newest_in (is.kept.each c.args.peer below) in
       let said = c.send_batch.ensures.batch w i p is in
       both_of w i _ _ _ (answers_as w i _ _ _ _
-      (ap (λ (e : ℕ). sends_batch i c.args.peer _ e p) end
+      (ap (λ (e : ℕ). sends_batch i c.args.peer None e p) end
       ∙ (sym (connected_three w.mode.version i c.args.peer p three)
       ∙ sym (cond-true (nat_lt c.args.peer w.numbers.n) (connected w.mode.version i c.args.peer p) (nothing_more p) (lt-ltb c.args.peer w.numbers.n below))))
       (record { stands = said.0; more = said.1 }));
