@@ -27,10 +27,8 @@ batch_all P given [] all = tt
 batch_all P given (k ∷ ks) all =
     by_test (joins_batch given (length k.frame)) (batch_all P (Some (bytes_with given (length k.frame))) ks all.1)
   where
-    abbrev rest : List Kept
-    rest = batch_behind (Some (bytes_with given (length k.frame))) ks
-
-    by_test : (b : Bool) → AllByRecursion P rest → AllByRecursion P (if b then k ∷ rest else [])
+    by_test : (b : Bool) → AllByRecursion P (batch_behind (Some (bytes_with given (length k.frame))) ks)
+        → AllByRecursion P (if b then k ∷ batch_behind (Some (bytes_with given (length k.frame))) ks else [])
     by_test true rest = (all.0, rest)
     by_test false rest = tt
 

@@ -19,12 +19,12 @@ returns-in-Some-get_mut-clause-comes g c = λ w es numbers ws p stand.
     let at = c.args.at in
     let old = c.in-Some-get_mut.keeper.now in
     let keeper = keeper_at _ w es numbers c.args.self.now ws p c.in-Some.place at old stand placed.1 c.in-Some-get_mut.ensures.item.3.0 c.in-Some-get_mut.ensures.value in
-    let said = c.connected.ensures.connected w at p keeper in
+    let said = c.connected-output.ensures.connected w at p keeper in
     let brings : Brought = if nat_lt c.args.peer w.numbers.n then connected w.mode.version at c.args.peer p else nothing_more p in
     comes_with _ w es numbers _ _ _ brings _
     (sym (ap (λ (b : Bool). if b && nat_lt c.args.peer w.numbers.n then connected w.mode.version at c.args.peer p else nothing_more p) placed.0))
     (only_more _ w es numbers _ c.clear.new.self _ ws brings
-    (one_keeper _ w es numbers c.args.self.now _ ws p brings.peers c.in-Some.place at old c.connected.new.self
+    (one_keeper _ w es numbers c.args.self.now _ ws p brings.peers c.in-Some.place at old c.connected-output.new.self
     stand placed.1 c.in-Some-get_mut.ensures.item.3.0 c.in-Some-get_mut.ensures.value refl refl refl said.0
     (λ i k other it. connected_elsewhere w.mode.version w.numbers.n i at c.args.peer (nat_lt c.args.peer w.numbers.n) k p other it))
     (cleared c.clear.new.self c.clear.ensures.none) (rw at_is said.1)
