@@ -1,5 +1,6 @@
-use Rattle.std.proofs.Common.{◌≡◌, ◌==◌, Bool, List, [], ◌∷◌, length, true, false, Option, Some, None, is_none, Bor, refl, sym, ap, ◌∙◌}
+use Rattle.std.proofs.Common.{◌≡◌, ◌==◌, Bool, List, [], ◌∷◌, length, true, false, not, Option, Some, None, is_some, Bor, refl, sym, ap, ◌∙◌, arith}
 use Rattle.std.specs.Option.{MatchOption}
+use Rattle.std.proofs.lemmas.Bool.{ne_eqb}
 use Rattle.link_resume.specs.declared.kept.Kept.{Kept}
 use Rattle.node_loop.specs.declared.output.Part.{Part}
 use Rattle.node_loop.specs.Resending.{part_of}
@@ -13,16 +14,21 @@ returns-in-All c = record {
       ∙ sym (ap (λ (part : Part). length (part_of part (kept_for c.args.resume.now.lists c.args.peer)) == 0) c.in-All.is);
 }
 
+not_empty : (k : Kept) (rest : List Kept) → (length (k ∷ rest) == 0) ≡ false
+not_empty k rest = ne_eqb (length (k ∷ rest)) 0 (λ e. omega (arith, e))
+
 -- nothing comes next just where there is nothing
-by_next : (o : Option (Bor Kept)) (xs rest : List Kept) → MatchOption o (xs ≡ []) (λ k. xs ≡ k.now ∷ rest) → is_none o ≡ (length xs == 0)
-by_next None xs rest is = sym (ap (λ (l : List Kept). length l == 0) is)
-by_next (Some k) xs rest is = sym (ap (λ (l : List Kept). length l == 0) is)
+by_next : (o : Option (Bor Kept)) (none : Bool) (xs rest : List Kept) → MatchOption o (xs ≡ []) (λ k. xs ≡ k.now ∷ rest)
+    → is_some o ≡ not none → none ≡ (length xs == 0)
+by_next None true xs rest is so = sym (ap (λ (l : List Kept). length l == 0) is)
+by_next None false xs rest is so = absurd cc
+by_next (Some k) true xs rest is so = absurd cc
+by_next (Some k) false xs rest is so = sym (ap (λ (l : List Kept). length l == 0) is ∙ not_empty k.now rest)
 
 pub returns-in-Batch : goal.returns-in-Batch
 returns-in-Batch c = record {
   nothing =
-      c.is_none.ensures
-      ∙ (by_next c.next_frame.result _ _ c.next_frame.ensures
+      by_next c.next_frame.result c.is_none.result _ _ c.next_frame.ensures c.is_none.ensures
       ∙ (ap (λ (l : List Kept). length l == 0) c.batch.ensures
-      ∙ sym (ap (λ (part : Part). length (part_of part (kept_for c.args.resume.now.lists c.args.peer)) == 0) c.in-Batch.is)));
+      ∙ sym (ap (λ (part : Part). length (part_of part (kept_for c.args.resume.now.lists c.args.peer)) == 0) c.in-Batch.is));
 }

@@ -8,7 +8,7 @@ use Rattle.node_loop.specs.Resending.{nothing_more, resends, front_of, acked_so,
 use Rattle.node_loop.proofs.Comings.{nothing_comes, only_more}
 use Rattle.node_loop.proofs.Heres.{as_here, nowhere, read_at}
 use Rattle.node_loop.proofs.Hearing.{keeper_at, acked_elsewhere, one_keeper, comes_with}
-use Rattle.node_loop.proofs.Wishing.{in_house}
+use Rattle.node_loop.proofs.Wishing.{keeper_at as kept_at}
 use Rattle.node_loop.proofs.house.House.note.Goals as goal
 
 pub returns-in-Some-get_mut-clause-comes : goal.returns-in-Some-get_mut-clause-comes
@@ -43,7 +43,7 @@ returns-in-Some-get-clause-comes g c = λ w es numbers ws p stand number clear.
     sym (c.open_note.ensures ∙ ap (λ (k : KeyRow). noted k c.args.bytes.now) keys) ∙ c.in-Some-Again.is ∙ ap (λ x. Some x) c.in-Some-Again.field-0-is in
     let peer = ((c.noted_from_peer.ensures (w.keys at) c.args.bytes.now).1 from said).0 in
     let below : from < w.numbers.n = omega (arith, peer, is.stands.many) in
-    let keeper = keeper_at _ w es numbers c.args.self.now ws p c.args.place at c.in-Some-get.keeper.now stand number c.in-Some-get.ensures.lookup.3.0 c.in-Some-get.ensures.lookup.1 in
+    let keeper = kept_at _ w es numbers c.args.self.now ws p c.deref-in-Some-Again.result.now c.args.place at c.in-Some-get.keeper.now c.in-Some-get.keeper.now stand c.deref-in-Some-Again.ensures.value number c.in-Some-get.ensures.lookup.3.0 c.in-Some-get.ensures.lookup.1 in
     let brings = resends at from (front_of v (p.keeping at from)) p in
     comes_with _ w es numbers _ _ _ brings (noted_so v at p (noted (w.keys at) c.args.bytes.now)) (sym (ap (noted_so v at p) said))
     (only_more _ w es numbers _ c.args.output.now _ ws brings stand clear (c.again-output.ensures.again w at p keeper below)

@@ -1,6 +1,7 @@
-use Rattle.std.proofs.Common.{◌≡◌, ◌<◌, ◌≤◌, ◌&&◌, Bool, nat_lt, refl, sym, ap, ap₂, ◌∙◌, arith, if◌then◌else◌}
+use Rattle.std.proofs.Common.{◌≡◌, ℕ, subst, ◌<◌, ◌≤◌, ◌&&◌, Bool, nat_lt, refl, sym, ap, ap₂, ◌∙◌, arith, if◌then◌else◌}
 use Rattle.std.proofs.lemmas.Bool.{both_ways, ltb-false}
 use Rattle.node_loop.specs.Resending.{Brought, nothing_more, connected}
+use Rattle.node_loop.specs.Standing.{IsMore}
 use Rattle.node_loop.proofs.Comings.{cleared, nothing_comes, only_more}
 use Rattle.node_loop.proofs.Hearing.{keeper_at, connected_elsewhere, one_keeper, comes_with}
 use Rattle.node_loop.proofs.Wishing.{in_house}
@@ -27,7 +28,7 @@ returns-in-Some-get_mut-clause-comes g c = λ w es numbers ws p stand.
     (one_keeper _ w es numbers c.args.self.now _ ws p brings.peers c.in-Some.place at old c.connected-output.new.self
     stand placed.1 c.in-Some-get_mut.ensures.item.3.0 c.in-Some-get_mut.ensures.value refl refl refl said.0
     (λ i k other it. connected_elsewhere w.mode.version w.numbers.n i at c.args.peer (nat_lt c.args.peer w.numbers.n) k p other it))
-    (cleared c.clear.new.self c.clear.ensures.none) (rw at_is said.1)
+    (cleared c.clear.new.self c.clear.ensures.none) (subst (λ (i : ℕ). IsMore w i c.connected-output.result brings) (sym at_is) said.1)
     (λ faulty. absurd (both_ways (w.is_correct at) (ap w.is_correct (sym at_is) ∙ faulty) placed.0)) refl refl refl refl refl)
 
 pub returns-in_default-get_mut-clause-comes : goal.returns-in_default-get_mut-clause-comes
