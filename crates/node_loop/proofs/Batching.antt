@@ -8,7 +8,7 @@ use Rattle.link_resume.specs.Lists.{is_between, between, joins_batch, bytes_with
 use Rattle.node_loop.specs.declared.output.Part.{Part}
 use Rattle.node_loop.specs.declared.output.Part.TheVariants as parts_are
 use Rattle.node_loop.specs.declared.peers.Pending.{Pending}
-use Rattle.node_loop.specs.Deeds.{Deed, Resent}
+use Rattle.node_loop.specs.Deeds.{Resent}
 use Rattle.node_loop.specs.Peers.{Peers, acknowledged}
 use Rattle.node_loop.specs.Resending.{Brought, nothing_more, part_of, resends, sends_batch, goes_on, acked_so, connected}
 

@@ -1,33 +1,19 @@
 -- The frames of a call are kept for their peers, and the house stands so.
-use Rattle.std.proofs.Common.{◌≡◌, ℕ, ◌≤◌, ◌+◌, ◌%◌, ◌^◌, ◌==◌, ◌&&◌, Bool, List, [], ◌∷◌, ◌++◌, length, map, Option, Some, None, Result, Ok, Err, refl, sym, ◌∙◌, ap, subst, arith, inl, inr, slice_set, if◌then◌else◌}
-use Rattle.std.specs.List.{All, AllByRecursion, slice_get}
+use Rattle.std.proofs.Common.{◌≡◌, ℕ, ◌==◌, ◌&&◌, Bool, List, [], ◌∷◌, map, Option, Some, None, refl, sym, ◌∙◌, ap, subst, inl, inr, slice_set, if◌then◌else◌}
+use Rattle.std.specs.List.{slice_get}
 use Rattle.std.proofs.Math.ListN.{length-set}
 use Rattle.std.proofs.lemmas.Bool.{cases_Bool, eqb-true}
 use Rattle.std.proofs.lemmas.Bool.Decides.{eqb_tells}
-use Rattle.std.proofs.lemmas.List.Elements.{All-from_recursion}
 use Rattle.std.proofs.lemmas.Option.{same_Some}
 use Rattle.std.specs.Vec.{with_item}
 use Rattle.ritas_base.specs.declared.event.Event.{Event}
 use Rattle.ritas_base.specs.declared.mode.FrameVersion.{FrameVersion}
-use Rattle.ritas_base.specs.declared.item.Item.{Item}
-use Rattle.ritas_base.specs.declared.item.Msg.{Msg}
-use Rattle.frame_codec.specs.declared.fault.BodyFault.{BodyFault}
-use Rattle.frame_codec.specs.Body.{body_answer}
-use Rattle.keyed_channel.specs.Lengths.{head_length}
 use Rattle.keyed_channel.specs.KeyRow.{KeyRow}
-use Rattle.keyed_channel.specs.Frames.{Opening, opening}
-use Rattle.keyed_channel.specs.Laws.{SealedLength}
-use Rattle.keyed_channel.specs.declared.frame.OpenFault.{OpenFault}
-use Rattle.ritas_core.specs.Order.{sent_to}
-use Rattle.ritas_core.specs.Rules.{Rules}
-use Rattle.ritas_core.specs.Machine.{CoreState}
 use Rattle.ritas_core.specs.Stands.{Meaning}
 use Rattle.replica.specs.Out.{OutFrame}
-use Rattle.replica.specs.Frames.{body_of, frame_for, receivers, frames_of}
-use Rattle.replica.specs.Handling.{ReplicaCall, Frame, Input, Turn, handled, given_body, given_frame}
 use Rattle.outside.specs.Links.{LinkAct, Sends}
-use Rattle.world_model.specs.World.{Setting, CallAt, call_of, handled_at, states_before}
-use Rattle.world_model.specs.MadeOrder.{MadeFrame, frames_of_call}
+use Rattle.world_model.specs.World.{Setting}
+use Rattle.world_model.specs.MadeOrder.{MadeFrame}
 use Rattle.world_model.proofs.Left.{get_set_same, get_set_other}
 use Rattle.node_loop.specs.declared.house.House.{House}
 use Rattle.node_loop.specs.declared.peers.Keeper.{Keeper}

@@ -1,5 +1,5 @@
 -- What a keeper answers that is to go out again to a peer.
-use Rattle.std.proofs.Common.{◌≡◌, ◌⊎◌, inl, inr, ℕ, ◌==◌, ◌<◌, ◌≤◌, nat_lt, Bool, true, false, List, length, slice_index_or, slice_set, Option, Some, None, refl, sym, ◌∙◌, ap, ap₂, subst, arith, if◌then◌else◌}
+use Rattle.std.proofs.Common.{◌≡◌, ◌⊎◌, inl, inr, ℕ, ◌<◌, List, slice_set, Option, None, refl, sym, ◌∙◌, ap, subst}
 use Rattle.ritas_base.specs.declared.mode.FrameVersion.{FrameVersion}
 use Rattle.ritas_base.specs.declared.mode.FrameVersion.TheVariants.{One, Two, Three}
 use Rattle.link_resume.specs.declared.kept.Kept.{Kept}
@@ -11,7 +11,7 @@ use Rattle.node_loop.specs.declared.output.Part.{Part}
 use Rattle.node_loop.specs.declared.output.Part.TheVariants as parts_are
 use Rattle.node_loop.specs.declared.peers.Keeper.{Keeper}
 use Rattle.node_loop.specs.declared.peers.Pending.{Pending}
-use Rattle.node_loop.specs.Peers.{Peers, with_pending, acknowledged}
+use Rattle.node_loop.specs.Peers.{Peers, acknowledged}
 use Rattle.node_loop.specs.PeersStanding.{AreKept, IsKeeper}
 use Rattle.node_loop.specs.Resending.{Brought, nothing_more, resends, front_of, newest_in, reached, sends_batch, goes_on, acked_so, connected}
 use Rattle.node_loop.specs.Standing.{IsMore}

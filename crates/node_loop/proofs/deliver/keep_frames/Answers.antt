@@ -1,8 +1,7 @@
-use Rattle.std.proofs.Common.{◌≡◌, ◌≤◌, ◌<◌, true, false, List, length, map, refl, sym, ◌∙◌, subst, arith}
-use Rattle.std.specs.List.{All, Any}
+use Rattle.std.proofs.Common.{◌≡◌, ◌<◌, true, false, List, length, map, refl, ◌∙◌, subst, arith}
+use Rattle.std.specs.List.{Any}
 use Rattle.std.proofs.lemmas.Option.{slice_get_read, slice_get_within}
 use Rattle.std.proofs.lemmas.Result.{on_ok_weaker, on_err_weaker}
-use Rattle.keyed_channel.specs.Lengths.{head_length}
 use Rattle.replica.specs.Out.{OutFrame}
 use Rattle.node_loop.specs.Peers.{keep_all}
 use Rattle.node_loop.specs.PeersStanding.{AreKept, made_as}

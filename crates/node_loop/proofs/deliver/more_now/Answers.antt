@@ -1,8 +1,7 @@
-use Rattle.std.proofs.Common.{◌≡◌, ◌==◌, length, sym, ◌∙◌, subst}
+use Rattle.std.proofs.Common.{sym, ◌∙◌, subst}
 use Rattle.std.proofs.lemmas.Bool.{eqb-true, eqb-false}
 use Rattle.node_loop.specs.declared.output.More.{More}
 use Rattle.node_loop.specs.Groups.{FitsPeers}
-use Rattle.node_loop.specs.Resending.{part_of}
 use Rattle.node_loop.specs.Standing.{IsMore}
 use Rattle.node_loop.proofs.Grouping.{now_as, now_none, now_some}
 use Rattle.node_loop.proofs.deliver.more_now.Goals as goal

@@ -1,4 +1,4 @@
-use Rattle.std.proofs.Common.{◌≡◌, ℕ, List, ap, Err, ◌∙◌}
+use Rattle.std.proofs.Common.{ℕ, List, ap, Err, ◌∙◌}
 use Rattle.std.proofs.lemmas.Result.{err_from_is_err_and}
 use Rattle.outside.specs.declared.link.LinkFault.{LinkFault}
 use Rattle.node_loop.specs.Deeds.{sends}

@@ -1,10 +1,8 @@
-use Rattle.std.proofs.Common.{List, sym, ap, ◌∙◌, subst}
+use Rattle.std.proofs.Common.{List, subst}
 use Rattle.outside.specs.LinkCalls.{each_act}
 use Rattle.link_resume.specs.declared.kept.Kept.{Kept}
-use Rattle.link_resume.specs.Lists.{kept_for}
 use Rattle.node_loop.specs.Outs.{LinkTook}
 use Rattle.node_loop.specs.PeersStanding.{kept_by}
-use Rattle.node_loop.specs.Resending.{part_of}
 use Rattle.node_loop.proofs.deliver.send_part.Goals as goal
 
 pub returns-in-All : goal.returns-in-All

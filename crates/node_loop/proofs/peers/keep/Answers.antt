@@ -1,4 +1,4 @@
-use Rattle.std.proofs.Common.{ap, Err, ◌+◌, ◌<◌, ◌≤◌, ◌≡◌, true, inl, inr, length, refl, arith}
+use Rattle.std.proofs.Common.{ap, Err, ◌+◌, ◌<◌, ◌≤◌, inl, inr, length, refl, arith}
 use Rattle.std.proofs.lemmas.Bool.{cases_Bool}
 use Rattle.link_resume.specs.Lists.{kept_for, bytes_in, may_have, IsWithin}
 use Rattle.node_loop.proofs.Keeping.{kept_more, kept_full, kept_none}

@@ -1,4 +1,4 @@
-use Rattle.std.proofs.Common.{ℕ, List, length, OnOk, subst, arith}
+use Rattle.std.proofs.Common.{ℕ, List, OnOk, subst, arith}
 use Rattle.std.proofs.lemmas.Result.{on_ok_weaker, on_err_weaker}
 use Rattle.link_resume.specs.Lists.{most_kept, room_for}
 use Rattle.node_loop.specs.Peers.{with_list, keeps}

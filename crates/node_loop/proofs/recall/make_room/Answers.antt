@@ -1,5 +1,4 @@
-use Rattle.std.proofs.Common.{◌<◌, ◌≤◌, arith}
-use Rattle.node_loop.proofs.Keeping.{kept_none}
+use Rattle.std.proofs.Common.{◌<◌, arith}
 use Rattle.node_loop.proofs.Recalling.{room_made}
 use Rattle.node_loop.proofs.recall.make_room.Goals as goal
 

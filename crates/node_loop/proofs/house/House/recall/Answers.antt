@@ -1,9 +1,7 @@
-use Rattle.std.proofs.Common.{◌≡◌, ◌≤◌, true, false, List, ◌∷◌, length, map, Some, refl, sym, subst, arith}
-use Rattle.std.specs.List.{All}
+use Rattle.std.proofs.Common.{◌≡◌, true, false, List, ◌∷◌, length, map, Some, refl, subst, arith}
 use Rattle.std.proofs.lemmas.Bool.{both_ways}
 use Rattle.std.proofs.lemmas.Option.{slice_get_read, slice_get_within}
 use Rattle.std.proofs.lemmas.Result.{on_ok_weaker}
-use Rattle.keyed_channel.specs.Lengths.{head_length}
 use Rattle.replica.specs.Out.{OutFrame}
 use Rattle.node_loop.specs.PeersStanding.{AreKept, made_as}
 use Rattle.node_loop.specs.Recovering.{recalled, all_newest}

@@ -1,4 +1,4 @@
-use Rattle.std.proofs.Common.{◌≡◌, ℕ, subst, ◌<◌, ◌≤◌, ◌&&◌, Bool, nat_lt, refl, sym, ap, ap₂, ◌∙◌, arith, if◌then◌else◌}
+use Rattle.std.proofs.Common.{ℕ, subst, ◌&&◌, Bool, nat_lt, refl, sym, ap, ◌∙◌, if◌then◌else◌}
 use Rattle.std.proofs.lemmas.Bool.{both_ways, ltb-false}
 use Rattle.node_loop.specs.Resending.{Brought, nothing_more, connected}
 use Rattle.node_loop.specs.Standing.{IsMore}

@@ -1,5 +1,5 @@
 use Rattle.std.proofs.Common.{◌≡◌, refl, sym, ◌∙◌, arith}
-use Rattle.ritas_base.specs.declared.mode.FrameVersion.TheVariants.{One, Two, Three}
+use Rattle.ritas_base.specs.declared.mode.FrameVersion.TheVariants.{Three}
 use Rattle.node_loop.specs.Peers.{acknowledged}
 use Rattle.node_loop.proofs.Sending.{both_of, answers_as, answers_nothing, taken_there, acked_earlier, acked_three, not_three}
 use Rattle.node_loop.proofs.peers.Keeper.acked.Goals as goal

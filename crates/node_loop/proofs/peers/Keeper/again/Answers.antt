@@ -1,10 +1,6 @@
-use Rattle.std.proofs.Common.{◌≡◌, ◌<◌, ℕ, None, refl, sym, ◌∙◌, ap, subst, arith}
-use Rattle.ritas_base.specs.declared.mode.FrameVersion.TheVariants.{Three}
-use Rattle.node_loop.specs.declared.output.More.TheVariants as mores
-use Rattle.node_loop.specs.declared.output.Part.{Part}
+use Rattle.std.proofs.Common.{ℕ, None, sym, ◌∙◌, ap, arith}
 use Rattle.node_loop.specs.declared.output.Part.TheVariants as parts_are
-use Rattle.node_loop.specs.Resending.{newest_in, resends}
-use Rattle.node_loop.specs.Standing.{IsMore}
+use Rattle.node_loop.specs.Resending.{newest_in}
 use Rattle.node_loop.proofs.Sending.{front_earlier, front_three, not_three, more_part}
 use Rattle.node_loop.proofs.peers.Keeper.again.Goals as goal
 

@@ -1,6 +1,6 @@
-use Rattle.std.proofs.Common.{◌≡◌, ◌<◌, ◌≤◌, ℕ, None, nat_lt, refl, sym, ◌∙◌, ap, arith, if◌then◌else◌}
+use Rattle.std.proofs.Common.{◌≡◌, ◌<◌, ◌≤◌, ℕ, None, nat_lt, sym, ◌∙◌, ap, arith}
 use Rattle.std.proofs.lemmas.Bool.{lt-ltb, le-ltb, cond-true, cond-false}
-use Rattle.ritas_base.specs.declared.mode.FrameVersion.TheVariants.{One, Two, Three}
+use Rattle.ritas_base.specs.declared.mode.FrameVersion.TheVariants.{Three}
 use Rattle.node_loop.specs.declared.output.Part.TheVariants as parts_are
 use Rattle.node_loop.specs.Resending.{nothing_more, connected, newest_in, sends_batch}
 use Rattle.node_loop.proofs.Sending.{both_of, answers_as, answers_nothing, answers_part, connected_earlier, connected_three, not_three}

@@ -1,4 +1,4 @@
-use Rattle.std.proofs.Common.{◌≡◌, ℕ, List, [], ◌∷◌, unwrap_or, refl, ap, ◌∙◌}
+use Rattle.std.proofs.Common.{◌≡◌, List, [], ◌∷◌, unwrap_or, refl, ap, ◌∙◌}
 use Rattle.link_resume.specs.declared.kept.Kept.{Kept}
 use Rattle.link_resume.specs.Lists.{kept_for, last_number}
 use Rattle.node_loop.specs.Resending.{newest_in}
