@@ -43,8 +43,7 @@ returns-in-Err-Mem c = record {
   kept = λ v n i p kept. tt;
   err =
       let old = c.args.resume.now in
-      let bytes = bytes_in (kept_for old.lists c.args.peer) in
-      (
+      let bytes = bytes_in (kept_for old.lists c.args.peer) in (
         omega (arith, c.if-from-peers.false, c.peers.ensures, c.from.ensures),
         elim (cases_Bool (may_have old.limit (bytes + length c.args.frame.now))) [
           | inl fits ↦ fits
