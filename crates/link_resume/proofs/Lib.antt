@@ -1,2 +1,4 @@
+pub mod Batches
 pub mod Places
 pub mod Room
+pub mod Within

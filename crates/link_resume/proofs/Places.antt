@@ -1,5 +1,5 @@
 -- Frames by their places, and what is left without a number.
-use Rattle.std.specs.Prelude.{◌≡◌, ◌≢◌, ℕ, ◌+◌, ◌-◌, ◌<◌, ◌≤◌, ◌==◌, zero, suc, Option, Some, None, is_some, unwrap_or, Bool, true, false, not, cond, List, [], ◌∷◌, ◌++◌, filter, length, sum_by, refl}
+use Rattle.std.specs.Prelude.{◌≡◌, ◌≢◌, ℕ, ◌+◌, ◌-◌, ◌<◌, ◌≤◌, ◌^◌, ◌==◌, zero, suc, Option, Some, None, is_some, unwrap_or, Bool, true, false, not, cond, List, [], ◌∷◌, ◌++◌, filter, length, refl}
 use Rattle.std.specs.declared.cmp.Ordering.TheVariants.{Greater}
 use Rattle.std.specs.List.{All}
 use Rattle.std.specs.Map.Calls.{RetainsPairs}
@@ -8,14 +8,14 @@ use Rattle.std.specs.BTreeMap.{insert_entry, is_at}
 use Rattle.std.specs.Ordering.{nat_cmp, match_ordering}
 use Rattle.std.specs.Cmp.{nat_cmp_is, unsigned_tied}
 use Rattle.std.specs.Option.{option_map}
-use Rattle.std.proofs.Common.{sym, ◌∙◌, ap, ap₂, subst, inl, inr, arith, eq-eqb}
+use Rattle.std.proofs.Common.{sym, ◌∙◌, ap, subst, inl, inr, arith, eq-eqb}
 use Rattle.std.proofs.lemmas.Bool.{cases_Bool, false≢true, eqb-true, eqb-false, cond-true, cond-false}
 use Rattle.std.proofs.lemmas.List.Elements.{All-filter, All-push}
 use Rattle.std.proofs.lemmas.List.Sums.{sum_by-append, sum_by-cons}
 use Rattle.std.proofs.lemmas.Map.Entries.{filter_from_retain_pairs, sum_by-remove_entry}
 use Rattle.link_resume.specs.declared.kept.Kept.{Kept}
 use Rattle.link_resume.specs.Lanes.{IsPeerLane, StandByNumber}
-use Rattle.link_resume.specs.Lists.{bytes_in, most_kept_bytes, all_but}
+use Rattle.link_resume.specs.Lists.{bytes_in, all_but}
 
 -- ---- a frame behind the others
 
@@ -153,16 +153,17 @@ pub none_stands : (es : List (ℕ × Kept)) → length es ≡ 0 → StandByNumbe
 none_stands es none i d within = absurd (omega (arith, none, within))
 
 -- one frame more
-pub lane_more : (bytes seq place : ℕ) (frame : List ℕ) (before now : Bool) (es : List (ℕ × Kept)) → IsPeerLane bytes before es → length frame ≤ most_kept_bytes - bytes
+pub lane_more : (bytes total seq place : ℕ) (frame : List ℕ) (before now : Bool) (es : List (ℕ × Kept)) → IsPeerLane bytes before es
+    → total ≡ bytes + length frame → total < 2 ^ 64
     → (now ≡ true → (place ≡ seq) × StandByNumber es)
-    → IsPeerLane (bytes + length frame) now (es ++ (place, record { seq = seq; frame = frame }) ∷ [])
-lane_more bytes seq place frame before now es lane room by =
+    → IsPeerLane total now (es ++ (place, record { seq = seq; frame = frame }) ∷ [])
+lane_more bytes total seq place frame before now es lane is fits by =
     let k : Kept = record { seq = seq; frame = frame } in
     let sum = sum_by-append (λ (y : Kept). length y.frame) (values_of es) (k ∷ []) in
     let whole = ap bytes_in (values_behind es place k) in
     record {
-      count = omega (arith, sum, whole, lane.count);
-      most = omega (arith, sum, whole, lane.count, lane.most, room);
+      count = omega (arith, sum, whole, lane.count, is);
+      most = omega (arith, sum, whole, lane.count, is, fits);
       places = λ t. All-push (λ (e : ℕ × Kept). e.0 ≡ e.1.seq) es (place, k) (by t).1 (by t).0;
     }
 

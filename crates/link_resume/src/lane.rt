@@ -1,20 +1,20 @@
-//! The frames that are kept for one peer, the oldest first, within the limit of their bytes.
+//! The frames that are kept for one peer, the oldest first.
 
-ghost use Rattle.std.specs.Prelude.{◌≡◌, ℕ, ◌+◌, ◌-◌, ◌^◌, ◌<◌, ◌≤◌, ◌↔◌, [], ◌∷◌, ◌++◌, length, All, filter, not, ◌==◌, Err, Some, IfSome, IfNone, OnOk, OnErr, MatchOption, true, Contains};
+ghost use Rattle.std.specs.Prelude.{◌≡◌, ℕ, ◌+◌, ◌-◌, ◌^◌, ◌<◌, ◌≤◌, ◌↔◌, [], ◌∷◌, ◌++◌, length, All, filter, not, nat_lt, ◌==◌, Err, Some, IfSome, IfNone, OnOk, OnErr, MatchOption, true, Contains};
 ghost use Rattle.std.specs.BTreeMap.{keys, values};
 ghost use Rattle.std.specs.List.{slice_get};
+ghost use Rattle.std.specs.Map.{values_of};
 ghost use Rattle.link_resume.specs.declared.kept.Kept.{Kept};
-ghost use Rattle.link_resume.specs.Lists.{bytes_in, most_kept_bytes, all_but, room_for};
+ghost use Rattle.link_resume.specs.Lanes.{start_behind, end_at};
+ghost use Rattle.link_resume.specs.Lists.{bytes_in, IsOver, all_but, between, last_number, may_have, room_for, room_within};
 
 use crate::kept::{KeepFault, Kept};
-use ritas_base::Bytes;
+use keyed_channel::LazyFrame;
 use std::alloc::Global;
 use std::collections::BTreeMap;
-use std::collections::btree_map::Values;
+use std::collections::btree_map::{Range, Values};
 use std::marker::Model;
-
-/// The most bytes that are kept for one peer.
-const MOST_BYTES: u64 = 8_388_608;
+use std::ops::Bound;
 
 /// The frames that are kept for one peer, the oldest first.
 #[derive(Drop)]
@@ -40,14 +40,12 @@ impl Model for Lane {
     ghost invariant = { λ l. IsPeerLane l.bytes l.by_number l.kept.entries };
 }
 
-// How many bytes these frames have, which are at most as many as may be kept.
+// How many bytes these frames have, which are fewer than 2^64.
 fn bytes_in(kept: &BTreeMap<u128, Kept>) -> u64
     requires { bytes_in (values kept.now) < 2 ^ 64 }
     ensures { result ≡ bytes_in (values kept.now) }
 {
-    kept.values()
-        .map(|frame| frame.frame.as_slice().len() as u64)
-        .sum()
+    kept.values().map(|kept| kept.frame.len() as u64).sum()
 }
 
 // The frames with another number, where nothing is known of their places.
@@ -69,6 +67,36 @@ fn place_behind(kept: &BTreeMap<u128, Kept>, number: u128) -> Option<u128>
     }
 }
 
+// Behind the place of a number, if there is one.
+fn start(after: Option<u64>) -> Bound<u128>
+    ensures { result ≡ start_behind after }
+{
+    match after {
+        Some(seq) => Bound::Excluded(u128::from(seq)),
+        None => Bound::Unbounded,
+    }
+}
+
+// Up to the place of the last number, or of the other where this is greater.
+fn end(after: Option<u64>, last: u64) -> Bound<u128>
+    ensures { result ≡ end_at after last }
+{
+    match after {
+        Some(seq) => Bound::Included(u128::from(seq.max(last))),
+        None => Bound::Included(u128::from(last)),
+    }
+}
+
+// Whether so many bytes, and so many more, may be kept.
+fn may_have(limit: Option<u64>, bytes: u64, more: u64) -> bool
+    ensures { result ≡ may_have limit (bytes + more) }
+{
+    match limit {
+        Some(most) => u128::from(bytes) + u128::from(more) <= u128::from(most),
+        None => true,
+    }
+}
+
 impl Lane {
     /// Nothing is kept. It takes no memory.
     pub(crate) fn new(alloc: Global) -> Lane
@@ -83,8 +111,7 @@ impl Lane {
 
     /// How many bytes the frames have.
     pub(crate) fn bytes(&self) -> u64
-        ensures value { result ≡ bytes_in self.now }
-        ensures most { result ≤ most_kept_bytes }
+        ensures { result ≡ bytes_in self.now }
     {
         self.bytes
     }
@@ -110,28 +137,60 @@ impl Lane {
         self.kept.values()
     }
 
-    /// Keeps a copy of the frame behind the others.
-    pub(crate) fn add(&mut self, alloc: Global, seq: u64, frame: &[u8]) -> Result<(), KeepFault>
+    /// The number of the newest frame.
+    pub(crate) fn newest(&self) -> Option<u64>
+        ensures { result ≡ last_number self.now }
+    {
+        match self.kept.values().next_back() {
+            Some(kept) => Some(kept.seq),
+            None => None,
+        }
+    }
+
+    /// Frames of which those behind a number, up to the last one, are all that are so, the oldest first. Where places are numbers there
+    /// are no others, and those before them aren't gone through.
+    pub(crate) fn span(&self, after: Option<u64>, last: u64) -> Range<'_, u128, Kept>
+        ensures { between after last (values_of result) ≡ between after last self.now }
+    {
+        if self.by_number {
+            self.kept.range((start(after), end(after, last)))
+        } else {
+            self.kept
+                .range((Bound::<u128>::Unbounded, Bound::<u128>::Unbounded))
+        }
+    }
+
+    /// Keeps the frame once more, behind the others.
+    pub(crate) fn add(
+        &mut self,
+        limit: Option<u64>,
+        seq: u64,
+        frame: &LazyFrame,
+    ) -> Result<(), KeepFault>
         ensures ok { OnOk result (self.new ≡ self.old ++ record { seq = seq; frame = frame.now } ∷ []) }
-        ensures full { (b : ℕ) → (result ≡ Err (KeepFault.QueueFull b)) ↔ ((b ≡ bytes_in self.old) × (most_kept_bytes < b + length frame.now)) }
+        ensures full { (b : ℕ) → (result ≡ Err (KeepFault.QueueFull b)) ↔ ((b ≡ bytes_in self.old) × IsOver limit (b + length frame.now)) }
         ensures err { OnErr result (self.new ≡ self.old) }
     {
         let len = frame.len() as u64;
-        if len > MOST_BYTES - self.bytes {
+        if !may_have(limit, self.bytes, len) {
             return Err(KeepFault::QueueFull(self.bytes));
         }
+        let Some(bytes) = self.bytes.checked_add(len) else {
+            // There is no memory of so many bytes.
+            return Err(KeepFault::Mem);
+        };
         let number = u128::from(seq);
         let Some(place) = place_behind(&self.kept, number) else {
             // More than 2^127 frames would have to come, with some kept all the while.
             return Err(KeepFault::Mem);
         };
         let by_number = place == number && (self.by_number || self.kept.is_empty());
-        let copy = Bytes::from_slice(alloc, frame)?;
-        match self.kept.insert(place, Kept { seq, frame: copy }) {
+        let frame = frame.share()?;
+        match self.kept.insert(place, Kept { seq, frame }) {
             Ok(_) => {}
             Err(_) => return Err(KeepFault::Mem),
         }
-        self.bytes += len;
+        self.bytes = bytes;
         self.by_number = by_number;
         Ok(())
     }
@@ -142,7 +201,7 @@ impl Lane {
     {
         if self.by_number {
             if let Some(kept) = self.kept.remove(&u128::from(seq)) {
-                self.bytes -= kept.frame.as_slice().len() as u64;
+                self.bytes -= kept.frame.len() as u64;
             }
         } else {
             retain_others(&mut self.kept, seq);
@@ -150,15 +209,25 @@ impl Lane {
         }
     }
 
-    /// The oldest frames go until so many bytes fit behind the others.
-    pub(crate) fn make_room(&mut self, size: u64)
-        ensures { self.new ≡ room_for size self.old }
+    // The oldest frames go until so many bytes fit behind the others, where there may be so many.
+    fn drop_oldest(&mut self, most: u64, size: u64)
+        ensures { self.new ≡ room_within most size self.old }
     {
-        while size > MOST_BYTES - self.bytes {
+        while !may_have(Some(most), self.bytes, size) {
             let Some(oldest) = self.kept.pop_first() else {
                 return;
             };
-            self.bytes -= oldest.1.frame.as_slice().len() as u64;
+            self.bytes -= oldest.1.frame.len() as u64;
+        }
+    }
+
+    /// The oldest frames go until so many bytes fit behind the others. Without a limit all stay.
+    pub(crate) fn make_room(&mut self, limit: Option<u64>, size: u64)
+        ensures { self.new ≡ room_for limit size self.old }
+    {
+        match limit {
+            Some(most) => self.drop_oldest(most, size),
+            None => {}
         }
     }
 }

@@ -63,7 +63,7 @@ wait_else {S = S} {E = E} {C = C} m w es numbers old now ws us p stands reps kee
 
 -- nothing goes to peers but the frames of a call
 abbrev pub quietly : Setting → List Event → Peers → Outcome → Brought
-quietly w es p did = nothing_more (keep_all (frames_made_by w es did.event) p)
+quietly w es p did = nothing_more (keep_all w.mode.version (frames_made_by w es did.event) p)
 
 pub is_none : (w : Setting) (at : ℕ) (is : More) (more : Brought) → is ≡ mores.Nothing → more.deeds ≡ [] → IsMore w at is more
 is_none w at is more none no_deeds = let P : More → Type 0 = λ x. IsMore w at x more in subst P (sym none) no_deeds
@@ -78,7 +78,7 @@ same_more w at k is was more at_is same it =
 pub came : {S E C : Type 0} (m : Meaning S E C KeyRow) (w : Setting) (es : List Event) (numbers : List ℕ) (now : House S E C) (output : Output) (at count : ℕ) (e : Event)
     (clear frames : List OutFrame) (quiet : List Reply) (ws : Waiting) (before : Peers) (more : Brought)
     → count ≡ length (rows_at w es at) → clear ≡ [] → map (frame_by at) frames ≡ map (frame_by at) clear ++ sent_by w es (Some e) → quiet ≡ []
-    → w.is_correct at ≡ true → IsMore w at output.more more → keep_all (frames_made_by w es (Some e)) before ≡ more.peers
+    → w.is_correct at ≡ true → IsMore w at output.more more → keep_all w.mode.version (frames_made_by w es (Some e)) before ≡ more.peers
     → HouseStands m w (e ∷ es) numbers now (waiting_left_by at count (rows_at w (e ∷ es) at) ws) before
     → map (reply_by at) output.replies.items ≡ map (reply_by at) quiet ++ replies_by at count (rows_at w (e ∷ es) at) ws
     → output.at ≡ at → output.event ≡ Some e → output.kept ≡ is_kept w es e → output.frames.items ≡ frames → ComesOut m w es numbers now output (event_called w es at e ws) more

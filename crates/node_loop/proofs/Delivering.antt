@@ -7,7 +7,6 @@ use Rattle.keyed_channel.specs.KeyRow.{KeyRow}
 use Rattle.ritas_core.specs.Stands.{Meaning}
 use Rattle.outside.specs.Faults.{count_after}
 use Rattle.outside.specs.Links.{LinkAct}
-use Rattle.outside.specs.LinkCalls.{LinkDid}
 use Rattle.outside.specs.LinkCallsLaws.{back_none}
 use Rattle.outside.specs.Writing.{TookFront}
 use Rattle.outside.specs.WritingLaws.{all_written, front_then}
@@ -26,7 +25,7 @@ use Rattle.node_loop.specs.declared.output.Output.{Output}
 use Rattle.node_loop.specs.Archives.{Moment, Reach, ArchiveLeftAt, reach}
 use Rattle.node_loop.specs.Groups.{FitsPeers, acts_by, acts_each}
 use Rattle.node_loop.specs.Keeping.{kept_of}
-use Rattle.node_loop.specs.Outs.{events_text, Outs, Tells, Agrees, StopsPartway, HasCauses, InOrder}
+use Rattle.node_loop.specs.Outs.{events_text, LinkGiven, Outs, Tells, Agrees, StopsPartway, HasCauses, InOrder}
 use Rattle.node_loop.specs.Ends.{IsFaultOfLink, fault_in, IsEndOf}
 use Rattle.node_loop.specs.Queries.{QueriesFit}
 use Rattle.node_loop.specs.Running.{Running, Gathered, IsOfTape}
@@ -178,7 +177,7 @@ module _ {S E C : Type 0} (m : Meaning S E C KeyRow) (w : Setting) (past : List 
     then = record { outs = with_link outs told count; stands = stands; fails = fails }
 
     -- all went out
-    pub group_goes : (outputs : List Output) → outputs ≡ group.outputs.items → LinkDid tells.link (acts_each (acts_by s₁.peers.keeping) outputs) outs.told told outs.link_faults count (Ok tt)
+    pub group_goes : (outputs : List Output) → outputs ≡ group.outputs.items → LinkGiven tells.link (acts_each (acts_by s₁.peers.keeping) outputs) outs.told told outs.link_faults count (Ok tt)
         → Running m w past numbers house tells base then taken until limit start left
     group_goes outputs same did = record {
       groups = groups;
@@ -189,17 +188,17 @@ module _ {S E C : Type 0} (m : Meaning S E C KeyRow) (w : Setting) (past : List 
       count = run.items;
       stands = run.under.stands;
       agrees = link_goes tells base outs s₁.events old new told count agrees
-          (subst (λ (acts : List LinkAct). LinkDid tells.link acts outs.told told outs.link_faults count (Ok tt)) (ap (acts_each (acts_by s₁.peers.keeping)) same ∙ run.under.holds.acts) did);
+          (subst (λ (acts : List LinkAct). LinkGiven tells.link acts outs.told told outs.link_faults count (Ok tt)) (ap (acts_each (acts_by s₁.peers.keeping)) same ∙ run.under.holds.acts) did);
       kept = kept;
     }
 
     -- or a part of it
     pub group_stops : (outputs : List Output) (x : LinkFault) (fault : Fault) (end : ServeEnd) → outputs ≡ group.outputs.items → IsFaultOfLink x fault
-        → LinkDid tells.link (acts_each (acts_by s₁.peers.keeping) outputs) outs.told told outs.link_faults count (Err x) → IsEndOf fault end → EndedAt then end
+        → LinkGiven tells.link (acts_each (acts_by s₁.peers.keeping) outputs) outs.told told outs.link_faults count (Err x) → IsEndOf fault end → EndedAt then end
     group_stops outputs x fault end same why did is =
         at_fault m w past numbers tells base until limit start groups then house.replicas.items fault end are fits is
         (link_stops tells base outs s₀.events s₁.events old [] new new told count x fault why (sym (append-nil new)) agrees
-        (subst (λ (acts : List LinkAct). LinkDid tells.link acts outs.told told outs.link_faults count (Err x)) (ap (acts_each (acts_by s₁.peers.keeping)) same ∙ run.under.holds.acts) did))
+        (subst (λ (acts : List LinkAct). LinkGiven tells.link acts outs.told told outs.link_faults count (Err x)) (ap (acts_each (acts_by s₁.peers.keeping)) same ∙ run.under.holds.acts) did))
         (if_failed fault _ run.under.stands.here)
         (left_none then (far_at (with_link outs told count)) (kept_of w past s₁.events) (newest_kept w past start groups) (kept_of w past s₀.events) fault (link_alone x fault why)
         agrees.taken kept)

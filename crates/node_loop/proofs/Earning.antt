@@ -2,6 +2,7 @@
 use Rattle.std.proofs.Common.{◌≡◌, ℕ, ◌&&◌, Bool, true, false, nat_lt, List, [], ◌∷◌, ◌++◌, map, reverse, Option, Some, None, Result, Ok, Err, refl, sym, ◌∙◌, ap, subst, append_assoc, ◌⊎◌, inl, inr, if◌then◌else◌}
 use Rattle.std.proofs.lemmas.List.{reverse-append}
 use Rattle.ritas_base.specs.declared.event.Event.{Event}
+use Rattle.ritas_base.specs.declared.mode.FrameVersion.{FrameVersion}
 use Rattle.ritas_base.specs.declared.event.Event.TheVariants as events
 use Rattle.outside.specs.declared.link.LinkItem.{LinkItem}
 use Rattle.outside.specs.declared.link.LinkItem.TheVariants as items
@@ -20,10 +21,11 @@ use Rattle.node_loop.specs.Waiting.{Waiting}
 use Rattle.node_loop.specs.Calls.{Outcome, event_called, item_does, first_does}
 use Rattle.node_loop.specs.Peers.{Peers, keep_all, with_mark}
 use Rattle.node_loop.specs.Deeds.{Deed, Came, Made, Resent, Acked, Wished, Replied, pushed}
-use Rattle.node_loop.specs.Resending.{Brought, nothing_more, is_deferred, opened_so, resends, noted_so}
+use Rattle.node_loop.specs.Resending.{Brought, nothing_more, is_deferred, opened_so, resends, front_of, acked_so, connected, noted_so}
 use Rattle.node_loop.specs.Serving.{Serving, so_far, onto, Round, Began, Turned, Reminded, Took, frames_made_by, outcome, brought, round_does, after_from}
 use Rattle.node_loop.specs.Told.{after_groups, with_deeds, deeds_from}
 use Rattle.node_loop.specs.Laws.{IsEarned, AreEarned, AcksAreEarned}
+use Rattle.node_loop.proofs.Batching.{OnlyResends, part_resends, acked_resends, connected_resends}
 use Rattle.node_loop.proofs.InOrder.{came, in_order, OfAnyKind, StaysWhere, any_together}
 use Rattle.node_loop.proofs.Reopening.{did_so, brings_so}
 
@@ -75,11 +77,16 @@ resent_earned : (w : Setting) (es : List Event) (i j : ℕ) (ks : List Kept) (ds
 resent_earned w es i j [] ds all = all
 resent_earned w es i j (k ∷ ks) ds all = resent_earned w es i j ks (Resent i j k.frame ∷ ds) all
 
-noted_earned : (w : Setting) (es : List Event) (i : ℕ) (p : Peers) (said : Option Note) (ds : List Deed) → AreEarned w es ds
-    → AreEarned w es (pushed (noted_so i p said).deeds ds)
-noted_earned w es i p None ds all = all
-noted_earned w es i p (Some (notes.Ack from seq)) ds all = all
-noted_earned w es i p (Some (notes.Again from)) ds all = resent_earned w es i from (p.keeping i from) ds all
+only_earned : (w : Setting) (es : List Event) (i j : ℕ) (brings : Brought) (ds : List Deed) → OnlyResends i j brings → AreEarned w es ds → AreEarned w es (pushed brings.deeds ds)
+only_earned w es i j brings ds only all = subst (λ (more : List Deed). AreEarned w es (pushed more ds)) (sym only.are) (resent_earned w es i j only.frames ds all)
+
+noted_earned : (w : Setting) (es : List Event) (version : FrameVersion) (i : ℕ) (p : Peers) (said : Option Note) (ds : List Deed) → AreEarned w es ds
+    → AreEarned w es (pushed (noted_so version i p said).deeds ds)
+noted_earned w es version i p None ds all = all
+noted_earned w es version i p (Some (notes.Ack from seq)) ds all = only_earned w es i from (acked_so version i from seq p) ds (acked_resends version i from seq p) all
+noted_earned w es version i p (Some (notes.Again from)) ds all =
+    let part = front_of version (p.keeping i from) in
+    only_earned w es i from (resends i from part p) ds (part_resends i from part p) all
 
 -- a frame that opened, and whose call is the newest event
 ack_earned : (w : Setting) (es : List Event) (i : ℕ) (bytes : List ℕ) (fs : List MadeFrame) (ds : List Deed) (o : Opening)
@@ -127,20 +134,20 @@ FrameEarned w now past to bytes ws p ds here note =
     let es = now ++ past in
     let did = did_so here note (event_called w es to (events.Frame to bytes) ws) ws in
     let fs = frames_made_by w es did.event in
-    let q = keep_all fs p in
-    let more = brings_so here note (noted_so to q (noted (w.keys to) bytes)) (opened_so w es to bytes q (opening (w.keys to) bytes)) q in
+    let q = keep_all w.mode.version fs p in
+    let more = brings_so here note (noted_so w.mode.version to q (noted (w.keys to) bytes)) (opened_so w es to bytes q (opening (w.keys to) bytes)) q in
     AreEarned w (onto did.event now ++ past) (with_deeds fs more.deeds did.replies (Came false (items.Frame to bytes) ∷ ds))
 
 frame_earned : (w : Setting) (now past : List Event) (to : ℕ) (bytes : List ℕ) (ws : Waiting) (p : Peers) (ds : List Deed) (here note : Bool)
     → AreEarned w (now ++ past) ds → FrameEarned w now past to bytes ws p ds here note
 frame_earned w now past to bytes ws p ds false note all = all
-frame_earned w now past to bytes ws p ds true true all = noted_earned w (now ++ past) to p (noted (w.keys to) bytes) (Came false (items.Frame to bytes) ∷ ds) all
+frame_earned w now past to bytes ws p ds true true all = noted_earned w (now ++ past) w.mode.version to p (noted (w.keys to) bytes) (Came false (items.Frame to bytes) ∷ ds) all
 frame_earned w now past to bytes ws p ds true false all =
     let es = now ++ past in
     let did = event_called w es to (events.Frame to bytes) ws in
     let fs = frames_made_by w es did.event in
     replied_earned w (events.Frame to bytes ∷ es) did.replies _
-    (opened_earned w es to bytes (keep_all fs p) fs ds (opening (w.keys to) bytes) refl (earned_later w es (Some (events.Frame to bytes)) ds all))
+    (opened_earned w es to bytes (keep_all w.mode.version fs p) fs ds (opening (w.keys to) bytes) refl (earned_later w es (Some (events.Frame to bytes)) ds all))
 
 onto_past : (o : Option Event) (now past : List Event) → onto o now ++ past ≡ onto o (now ++ past)
 onto_past None now past = refl
@@ -154,10 +161,10 @@ plain_earned w now past did ds all =
     (made_earned w (onto did.event now ++ past) (frames_made_by w (now ++ past) did.event) ds
     (subst (λ (es : List Event). AreEarned w es ds) (sym (onto_past did.event now past)) (earned_later w (now ++ past) did.event ds all)))
 
-up_earned : (w : Setting) (es : List Event) (at peer : ℕ) (p : Peers) (ds : List Deed) (b : Bool) → AreEarned w es ds
-    → AreEarned w es (pushed (if b then resends at peer p else nothing_more p).deeds ds)
-up_earned w es at peer p ds true all = resent_earned w es at peer (p.keeping at peer) ds all
-up_earned w es at peer p ds false all = all
+up_earned : (w : Setting) (es : List Event) (version : FrameVersion) (at peer : ℕ) (p : Peers) (ds : List Deed) (b : Bool) → AreEarned w es ds
+    → AreEarned w es (pushed (if b then connected version at peer p else nothing_more p).deeds ds)
+up_earned w es version at peer p ds true all = only_earned w es at peer (connected version at peer p) ds (connected_resends version at peer p) all
+up_earned w es version at peer p ds false all = all
 
 round_earned : (w : Setting) (past : List Event) (x : Round) (s : Serving) (ds : List Deed) → AreEarned w (so_far past s) ds
     → AreEarned w (so_far past (round_does w past x s))
@@ -171,7 +178,7 @@ round_earned w past (Took (items.Client at conn bytes)) s ds all =
     plain_earned w s.events past (item_does w (so_far past s) (items.Client at conn bytes) s.waiting) (Came false (items.Client at conn bytes) ∷ ds) all
 round_earned w past (Took (items.Reply from bytes)) s ds all = all
 round_earned w past (Took (items.Up at peer)) s ds all =
-    up_earned w (so_far past s) at peer s.peers (Came false (items.Up at peer) ∷ ds) (w.is_correct at && nat_lt peer w.numbers.n) all
+    up_earned w (so_far past s) w.mode.version at peer s.peers (Came false (items.Up at peer) ∷ ds) (w.is_correct at && nat_lt peer w.numbers.n) all
 round_earned w past (Took (items.Down at peer)) s ds all = all
 round_earned w past (Took (items.Left at conn)) s ds all = all
 round_earned w past (Took items.End) s ds all = all

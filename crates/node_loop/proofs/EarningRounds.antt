@@ -1,6 +1,7 @@
 -- An acknowledgement goes out of the round that took its frame.
 use Rattle.std.proofs.Common.{◌≡◌, ℕ, ◌&&◌, Bool, true, false, nat_lt, List, [], ◌∷◌, ◌++◌, map, Some, None, Option, Result, Ok, Err, refl, sym, ◌∙◌, ap, append_assoc, subst, if◌then◌else◌}
 use Rattle.ritas_base.specs.declared.event.Event.{Event}
+use Rattle.ritas_base.specs.declared.mode.FrameVersion.{FrameVersion}
 use Rattle.ritas_base.specs.declared.event.Event.TheVariants as events
 use Rattle.outside.specs.declared.link.LinkItem.TheVariants as items
 use Rattle.outside.specs.declared.link.Sent.{Sent}
@@ -16,7 +17,8 @@ use Rattle.node_loop.specs.Waiting.{Waiting}
 use Rattle.node_loop.specs.Calls.{event_called}
 use Rattle.node_loop.specs.Peers.{Peers, keep_all, with_mark}
 use Rattle.node_loop.specs.Deeds.{Deed, Made, Resent, Acked, Replied, pushed}
-use Rattle.node_loop.specs.Resending.{Brought, nothing_more, is_deferred, mark_at, opened_so, resends, noted_so}
+use Rattle.node_loop.specs.Resending.{Brought, nothing_more, is_deferred, mark_at, opened_so, resends, front_of, acked_so, connected, noted_so}
+use Rattle.node_loop.proofs.Batching.{OnlyResends, part_resends, acked_resends, connected_resends}
 use Rattle.node_loop.specs.Serving.{Serving, so_far, Round, Began, Turned, Reminded, Took, frames_made_by, outcome, brought, after_from}
 use Rattle.node_loop.specs.Told.{after_groups, with_deeds, came_for, came_in, newest_deeds, deeds_from}
 use Rattle.node_loop.specs.EarnedRounds.{Earns, IsEarnedIn, EachAck, AcksAreOfRounds}
@@ -37,14 +39,20 @@ module _ (P : ℕ → ℕ → ℕ → List Deed → Type 0) where
   resent_each i j [] ds all = all
   resent_each i j (k ∷ ks) ds all = resent_each i j ks (Resent i j k.frame ∷ ds) all
 
-  noted_each : (i : ℕ) (p : Peers) (said : Option Note) (ds : List Deed) → EachAck P ds → EachAck P (pushed (noted_so i p said).deeds ds)
-  noted_each i p None ds all = all
-  noted_each i p (Some (notes.Ack from seq)) ds all = all
-  noted_each i p (Some (notes.Again from)) ds all = resent_each i from (p.keeping i from) ds all
+  only_each : (i j : ℕ) (brings : Brought) (ds : List Deed) → OnlyResends i j brings → EachAck P ds → EachAck P (pushed brings.deeds ds)
+  only_each i j brings ds only all =
+      let P' : List Deed → Type 0 = λ more. EachAck P (pushed more ds) in subst P' (sym only.are) (resent_each i j only.frames ds all)
 
-  up_each : (at peer : ℕ) (p : Peers) (ds : List Deed) (b : Bool) → EachAck P ds → EachAck P (pushed (if b then resends at peer p else nothing_more p).deeds ds)
-  up_each at peer p ds true all = resent_each at peer (p.keeping at peer) ds all
-  up_each at peer p ds false all = all
+  noted_each : (version : FrameVersion) (i : ℕ) (p : Peers) (said : Option Note) (ds : List Deed) → EachAck P ds → EachAck P (pushed (noted_so version i p said).deeds ds)
+  noted_each version i p None ds all = all
+  noted_each version i p (Some (notes.Ack from seq)) ds all = only_each i from (acked_so version i from seq p) ds (acked_resends version i from seq p) all
+  noted_each version i p (Some (notes.Again from)) ds all =
+      let part = front_of version (p.keeping i from) in only_each i from (resends i from part p) ds (part_resends i from part p) all
+
+  up_each : (version : FrameVersion) (at peer : ℕ) (p : Peers) (ds : List Deed) (b : Bool) → EachAck P ds
+      → EachAck P (pushed (if b then connected version at peer p else nothing_more p).deeds ds)
+  up_each version at peer p ds true all = only_each at peer (connected version at peer p) ds (connected_resends version at peer p) all
+  up_each version at peer p ds false all = all
 
   came_each : (x : Round) (group : List Round) (ds : List Deed) → EachAck P ds → EachAck P (came_for x group ++ ds)
   came_each (Took item) [] ds all = all
@@ -96,8 +104,8 @@ module _ (P : ℕ → ℕ → ℕ → List Deed → Type 0) (w : Setting) (es : 
   Frames here note = frames_made_by w es (did_so here note (event_called w es to (events.Frame to bytes) ws) ws).event
 
   abbrev More : Bool → Bool → Brought
-  More here note = let q = keep_all (Frames here note) p in
-      brings_so here note (noted_so to q (noted (w.keys to) bytes)) (opened_so w es to bytes q (opening (w.keys to) bytes)) q
+  More here note = let q = keep_all w.mode.version (Frames here note) p in
+      brings_so here note (noted_so w.mode.version to q (noted (w.keys to) bytes)) (opened_so w es to bytes q (opening (w.keys to) bytes)) q
 
   frame_each : (here note : Bool)
       → ((o : Opening) → (did_so here note (event_called w es to (events.Frame to bytes) ws) ws).event ≡ Some (events.Frame to bytes)
@@ -106,10 +114,10 @@ module _ (P : ℕ → ℕ → ℕ → List Deed → Type 0) (w : Setting) (es : 
       → EachAck P ds
       → EachAck P (with_deeds (Frames here note) (More here note).deeds (did_so here note (event_called w es to (events.Frame to bytes) ws) ws).replies ds)
   frame_each false note earns all = all
-  frame_each true true earns all = noted_each P to p (noted (w.keys to) bytes) ds all
+  frame_each true true earns all = noted_each P w.mode.version to p (noted (w.keys to) bytes) ds all
   frame_each true false earns all =
       let fs = Frames true false in
-      let q = keep_all fs p in
+      let q = keep_all w.mode.version fs p in
       replied_each P (event_called w es to (events.Frame to bytes) ws).replies _
       (opened_each P w es to bytes q (pushed (map Made fs) ds) (opening (w.keys to) bytes)
       (λ o is answered. earns o refl is answered (ack_alone w es to bytes q o is answered))
@@ -139,7 +147,7 @@ round_each P w past (Took (items.Client at conn bytes)) s ds earns all =
     let x : Round = Took (items.Client at conn bytes) in
     replied_each P (outcome w past x s).replies _ (made_each P (frames_made_by w (so_far past s) (outcome w past x s).event) ds all)
 round_each P w past (Took (items.Reply from bytes)) s ds earns all = all
-round_each P w past (Took (items.Up at peer)) s ds earns all = up_each P at peer s.peers ds (w.is_correct at && nat_lt peer w.numbers.n) all
+round_each P w past (Took (items.Up at peer)) s ds earns all = up_each P w.mode.version at peer s.peers ds (w.is_correct at && nat_lt peer w.numbers.n) all
 round_each P w past (Took (items.Down at peer)) s ds earns all = all
 round_each P w past (Took (items.Left at conn)) s ds earns all = all
 round_each P w past (Took items.End) s ds earns all = all

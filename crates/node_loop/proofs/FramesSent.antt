@@ -1,8 +1,9 @@
 -- The link's calls are the deeds, which stand in front of those before them, and what went out for the first time are the frames that the calls made.
-use Rattle.std.proofs.Common.{◌≡◌, ℕ, ◌&&◌, Bool, true, false, nat_lt, List, [], ◌∷◌, ◌++◌, map, reverse, Option, Some, None, Result, Ok, Err, refl, sym, ◌∙◌, ap, ap₂, append_assoc, if◌then◌else◌}
+use Rattle.std.proofs.Common.{◌≡◌, ℕ, ◌&&◌, Bool, true, false, nat_lt, List, [], ◌∷◌, ◌++◌, map, reverse, Option, Some, None, Result, Ok, Err, refl, sym, ◌∙◌, ap, ap₂, subst, append_assoc, if◌then◌else◌}
 use Rattle.std.specs.List.{AllByRecursion}
 use Rattle.std.proofs.lemmas.List.{append-nil, map-append, reverse-append, reverse-reverse}
 use Rattle.ritas_base.specs.declared.event.Event.{Event}
+use Rattle.ritas_base.specs.declared.mode.FrameVersion.{FrameVersion}
 use Rattle.ritas_base.specs.declared.event.Event.TheVariants as events
 use Rattle.outside.specs.declared.link.LinkItem.{LinkItem}
 use Rattle.outside.specs.declared.link.LinkItem.TheVariants as items
@@ -19,7 +20,8 @@ use Rattle.world_model.specs.World.{Setting, seen_of}
 use Rattle.world_model.specs.MadeOrder.{MadeFrame, all_made}
 use Rattle.node_loop.specs.Peers.{Peers, keep_all}
 use Rattle.node_loop.specs.Deeds.{Deed, Came, Made, Resent, Acked, Wished, Replied, pushed, act_of, firsts_in}
-use Rattle.node_loop.specs.Resending.{Brought, is_deferred, opened_so, noted_so, item_brings}
+use Rattle.node_loop.specs.Resending.{Brought, is_deferred, opened_so, resends, front_of, acked_so, connected, noted_so, item_brings}
+use Rattle.node_loop.proofs.Batching.{OnlyResends, part_resends, acked_resends, connected_resends}
 use Rattle.node_loop.specs.Serving.{Serving, so_far, as_sent, frames_made_by, sent_of, onto, Round, Began, Turned, Reminded, Took, at_call, outcome, brought, round_does, after_from}
 use Rattle.node_loop.specs.Told.{given_for, given_in, news_from, after_groups, came_for, came_in, with_deeds, newest_deeds, deeds_from}
 use Rattle.node_loop.specs.Laws.{ActsAreDeeds, DeedsAreBehind, FramesAreMade}
@@ -174,10 +176,14 @@ resent_besides : (i j : ℕ) (ks : List Kept) → AllByRecursion IsBesides (map 
 resent_besides i j [] = tt
 resent_besides i j (k ∷ ks) = (tt, resent_besides i j ks)
 
-noted_besides : (i : ℕ) (p : Peers) (said : Option Note) → AllByRecursion IsBesides (noted_so i p said).deeds
-noted_besides i p None = tt
-noted_besides i p (Some (notes.Ack from seq)) = tt
-noted_besides i p (Some (notes.Again from)) = resent_besides i from (p.keeping i from)
+only_besides : (i j : ℕ) (brings : Brought) → OnlyResends i j brings → AllByRecursion IsBesides brings.deeds
+only_besides i j brings only = subst (λ (ds : List Deed). AllByRecursion IsBesides ds) (sym only.are) (resent_besides i j only.frames)
+
+noted_besides : (version : FrameVersion) (i : ℕ) (p : Peers) (said : Option Note) → AllByRecursion IsBesides (noted_so version i p said).deeds
+noted_besides version i p None = tt
+noted_besides version i p (Some (notes.Ack from seq)) = only_besides i from (acked_so version i from seq p) (acked_resends version i from seq p)
+noted_besides version i p (Some (notes.Again from)) =
+    let part = front_of version (p.keeping i from) in only_besides i from (resends i from part p) (part_resends i from part p)
 
 one_of : (a b : Brought) (t : Bool) → AllByRecursion IsBesides a.deeds → AllByRecursion IsBesides b.deeds → AllByRecursion IsBesides (if t then a else b).deeds
 one_of a b true first second = first
@@ -191,11 +197,11 @@ opened_besides w es i bytes p (Ok o) = one_of _ _ (is_deferred (seen_of w es (ev
 pub item_besides : (w : Setting) (es : List Event) (item : LinkItem) (p : Peers) → AllByRecursion IsBesides (item_brings w es item p).deeds
 item_besides w es (items.Frame to bytes) p =
     one_of _ _ (w.is_correct to)
-    (one_of _ _ (is_note bytes) (noted_besides to p (noted (w.keys to) bytes)) (opened_besides w es to bytes p (opening (w.keys to) bytes)))
+    (one_of _ _ (is_note bytes) (noted_besides w.mode.version to p (noted (w.keys to) bytes)) (opened_besides w es to bytes p (opening (w.keys to) bytes)))
     tt
 item_besides w es (items.Client at conn bytes) p = tt
 item_besides w es (items.Reply from bytes) p = tt
-item_besides w es (items.Up at peer) p = one_of _ _ (w.is_correct at && nat_lt peer w.numbers.n) (resent_besides at peer (p.keeping at peer)) tt
+item_besides w es (items.Up at peer) p = one_of _ _ (w.is_correct at && nat_lt peer w.numbers.n) (only_besides at peer (connected w.mode.version at peer p) (connected_resends w.mode.version at peer p)) tt
 item_besides w es (items.Down at peer) p = tt
 item_besides w es (items.Left at conn) p = tt
 item_besides w es items.End p = tt
@@ -228,7 +234,7 @@ frames_more w past before (Turned i) s ds so = made_round w s.events past before
 frames_more w past before (Reminded i j) s ds so = made_round w s.events past before (outcome w past (Reminded i j) s).event (brought w past (Reminded i j) s).deeds (outcome w past (Reminded i j) s).replies ds (tt, tt) so
 frames_more w past before (Took item) s ds so =
     made_round w s.events past before (outcome w past (Took item) s).event (brought w past (Took item) s).deeds (outcome w past (Took item) s).replies (Came false item ∷ ds)
-    (item_besides w (so_far past s) item (keep_all (frames_made_by w (so_far past s) (outcome w past (Took item) s).event) s.peers)) so
+    (item_besides w (so_far past s) item (keep_all w.mode.version (frames_made_by w (so_far past s) (outcome w past (Took item) s).event) s.peers)) so
 
 made_in_order : (w : Setting) (past : List Event) (start : Serving) (before : List MadeFrame) (ds : List Deed) (rounds : List Round)
     → all_made w (so_far past start) ≡ before ++ reverse (firsts_in ds)

@@ -9,8 +9,7 @@ use Rattle.ritas_base.specs.declared.event.Event.{Event}
 use Rattle.keyed_channel.specs.KeyRow.{KeyRow}
 use Rattle.ritas_core.specs.Stands.{Meaning}
 use Rattle.link_resume.specs.declared.kept.Kept.{Kept}
-use Rattle.outside.specs.LinkCalls.{LinkDid, each_act}
-use Rattle.outside.specs.LinkCallsLaws.{did_then, did_fails}
+use Rattle.outside.specs.LinkCalls.{each_act}
 use Rattle.outside.specs.Links.{LinkAct, Replies}
 use Rattle.outside.specs.declared.link.FaultCounts.{FaultCounts}
 use Rattle.outside.specs.declared.link.LinkFault.{LinkFault}
@@ -27,10 +26,12 @@ use Rattle.node_loop.specs.Calls.{Outcome}
 use Rattle.node_loop.specs.Deeds.{Deed, Resent, act_of, has_resent}
 use Rattle.node_loop.specs.Groups.{acts_by, acts_each, more_by, FitsPeers, kept_listed, text_listed, GroupHolds, JoinsGroup, Under, IsEmpty}
 use Rattle.node_loop.specs.Keeping.{is_kept, has_kept, kept_onto, kept_of}
-use Rattle.node_loop.specs.Outs.{events_text}
+use Rattle.node_loop.specs.Outs.{events_text, LinkGiven}
+use Rattle.node_loop.proofs.Taking.{given_then, given_fails}
 use Rattle.node_loop.specs.Peers.{Keeping}
 use Rattle.node_loop.specs.PeersStanding.{kept_by}
-use Rattle.node_loop.specs.Resending.{Brought}
+use Rattle.node_loop.specs.declared.output.Part.{Part}
+use Rattle.node_loop.specs.Resending.{Brought, part_of}
 use Rattle.node_loop.specs.Serving.{Serving, so_far, sent_by, sent_of, onto, Round, Began, Turned, Reminded, Took, at_call, outcome, brought, after_from}
 use Rattle.node_loop.specs.Told.{AreJoined, enough_bytes, events_from, news_from}
 use Rattle.node_loop.specs.Standing.{HouseStands, ComesOut, IsMore, IsMoreNow, is_again, frame_by, reply_by}
@@ -51,19 +52,19 @@ acts_rest f xs i = ap (acts_each f) (sym (take-append-drop i xs)) ∙ acts_appen
 
 -- the next one's went out
 pub acts_go : {A : Type 0} (f : A → List LinkAct) (xs : List A) (i : ℕ) (x d : A) (tells : Bool) (old mid new : List LinkAct) (k y z : FaultCounts)
-    → i < length xs → x ≡ get_or xs i d → LinkDid tells (acts_each f (take i xs)) old mid k y (Ok tt) → LinkDid tells (f x) mid new y z (Ok tt)
-    → LinkDid tells (acts_each f (take (i + 1) xs)) old new k z (Ok tt)
+    → i < length xs → x ≡ get_or xs i d → LinkGiven tells (acts_each f (take i xs)) old mid k y (Ok tt) → LinkGiven tells (f x) mid new y z (Ok tt)
+    → LinkGiven tells (acts_each f (take (i + 1) xs)) old new k z (Ok tt)
 acts_go f xs i x d tells old mid new k y z lt is first second =
-    rw (acts_more f xs i x d lt is) (did_then tells (acts_each f (take i xs)) (f x) old mid new k y z (Ok tt) first second)
+    rw (acts_more f xs i x d lt is) (given_then tells (acts_each f (take i xs)) (f x) old mid new k y z (Ok tt) first second)
 
 -- a part of them did
 pub acts_fail : {A : Type 0} (f : A → List LinkAct) (xs : List A) (i : ℕ) (x d : A) (tells : Bool) (old mid new : List LinkAct) (k y z : FaultCounts) (e : LinkFault)
-    → i < length xs → x ≡ get_or xs i d → LinkDid tells (acts_each f (take i xs)) old mid k y (Ok tt) → LinkDid tells (f x) mid new y z (Err e)
-    → LinkDid tells (acts_each f xs) old new k z (Err e)
+    → i < length xs → x ≡ get_or xs i d → LinkGiven tells (acts_each f (take i xs)) old mid k y (Ok tt) → LinkGiven tells (f x) mid new y z (Err e)
+    → LinkGiven tells (acts_each f xs) old new k z (Err e)
 acts_fail f xs i x d tells old mid new k y z e lt is first second =
-    let here = did_then tells (acts_each f (take i xs)) (f x) old mid new k y z (Err e) first second in
-    let more : LinkDid tells (acts_each f (take (i + 1) xs)) old new k z (Err e) = rw (acts_more f xs i x d lt is) here in
-    rw (acts_rest f xs (i + 1)) (did_fails tells (acts_each f (take (i + 1) xs)) (acts_each f (drop (i + 1) xs)) old new k z e more)
+    let here = given_then tells (acts_each f (take i xs)) (f x) old mid new k y z (Err e) first second in
+    let more : LinkGiven tells (acts_each f (take (i + 1) xs)) old new k z (Err e) = rw (acts_more f xs i x d lt is) here in
+    rw (acts_rest f xs (i + 1)) (given_fails tells (acts_each f (take (i + 1) xs)) (acts_each f (drop (i + 1) xs)) old new k z e more)
 
 -- ---- what goes out of one round
 
@@ -74,8 +75,8 @@ resent_acts keys at peer (k ∷ kept) = ap (λ (acts : List LinkAct). kept_by at
 besides : (w : Setting) (at : ℕ) (goes : More) (more : Brought) → IsMore w at goes more → more_by more.peers.keeping at goes ≡ reverse (map (act_of w.keys) more.deeds)
 besides w at mores.Nothing more brings = ap (λ (ds : List Deed). reverse (map (act_of w.keys) ds)) (sym brings)
 besides w at (mores.Note peer bytes) more brings = ap reverse (sym brings.0)
-besides w at (mores.Kept peer) more brings =
-    ap reverse (sym (resent_acts w.keys at peer (more.peers.keeping at peer)) ∙ ap (map (act_of w.keys)) (sym brings.1))
+besides w at (mores.Kept peer part) more brings =
+    ap reverse (sym (resent_acts w.keys at peer (part_of part (more.peers.keeping at peer))) ∙ ap (map (act_of w.keys)) (sym brings.1))
 
 acts_as : (w : Setting) (es : List Event) (did : Outcome) (more : Brought) (o : Output) → map (frame_by o.at) o.frames.items ≡ sent_by w es did.event → IsMore w o.at o.more more
     → map (reply_by o.at) o.replies.items ≡ did.replies → acts_by more.peers.keeping o ≡ sent_of w es did more
@@ -89,7 +90,8 @@ none_kept at peer (k ∷ kept) none = absurd (cc)
 pub fits_as : (w : Setting) (at : ℕ) (goes : More) (more : Brought) → IsMore w at goes more → (w.is_correct at ≡ false → more.deeds ≡ []) → FitsPeers w more.peers.keeping at goes
 fits_as w at mores.Nothing more brings nowhere = tt
 fits_as w at (mores.Note peer bytes) more brings nowhere = tt
-fits_as w at (mores.Kept peer) more brings nowhere = (brings.0, λ away. none_kept at peer (more.peers.keeping at peer) (sym brings.1 ∙ nowhere away))
+fits_as w at (mores.Kept peer part) more brings nowhere =
+    (brings.0, λ away. none_kept at peer (part_of part (more.peers.keeping at peer)) (sym brings.1 ∙ nowhere away))
 
 module _ (tells : Bool) (keeping : Keeping) (o : Output) where
   abbrev frames_of : List OutFrame → List LinkAct
@@ -101,35 +103,35 @@ module _ (tells : Bool) (keeping : Keeping) (o : Output) where
   abbrev replies_of : List Reply → List LinkAct
   replies_of items = each_act Replies (map (reply_by o.at) items)
 
-  as_frames : (items : List OutFrame) (old new : List LinkAct) (x y : FaultCounts) (r : Result (Unit {0}) LinkFault) → items ≡ o.frames.items → LinkDid tells (frames_of items) old new x y r
-      → LinkDid tells (frames_of o.frames.items) old new x y r
-  as_frames items old new x y r same did = subst (λ (l : List OutFrame). LinkDid tells (frames_of l) old new x y r) same did
+  as_frames : (items : List OutFrame) (old new : List LinkAct) (x y : FaultCounts) (r : Result (Unit {0}) LinkFault) → items ≡ o.frames.items → LinkGiven tells (frames_of items) old new x y r
+      → LinkGiven tells (frames_of o.frames.items) old new x y r
+  as_frames items old new x y r same did = subst (λ (l : List OutFrame). LinkGiven tells (frames_of l) old new x y r) same did
 
   -- some of the frames went out
-  pub frames_fail : (items : List OutFrame) (old new : List LinkAct) (x y : FaultCounts) (fault : LinkFault) → items ≡ o.frames.items → LinkDid tells (frames_of items) old new x y (Err fault)
-      → LinkDid tells (acts_by keeping o) old new x y (Err fault)
+  pub frames_fail : (items : List OutFrame) (old new : List LinkAct) (x y : FaultCounts) (fault : LinkFault) → items ≡ o.frames.items → LinkGiven tells (frames_of items) old new x y (Err fault)
+      → LinkGiven tells (acts_by keeping o) old new x y (Err fault)
   frames_fail items old new x y fault same did =
-      did_fails tells (more_of ++ frames_of o.frames.items) (replies_of o.replies.items) old new x y fault
-      (did_fails tells (frames_of o.frames.items) more_of old new x y fault (as_frames items old new x y (Err fault) same did))
+      given_fails tells (more_of ++ frames_of o.frames.items) (replies_of o.replies.items) old new x y fault
+      (given_fails tells (frames_of o.frames.items) more_of old new x y fault (as_frames items old new x y (Err fault) same did))
 
   out_both : (items : List OutFrame) (old mid new : List LinkAct) (x y z : FaultCounts) (r : Result (Unit {0}) LinkFault) → items ≡ o.frames.items
-      → LinkDid tells (frames_of items) old mid x y (Ok tt) → LinkDid tells more_of mid new y z r → LinkDid tells (more_of ++ frames_of o.frames.items) old new x z r
+      → LinkGiven tells (frames_of items) old mid x y (Ok tt) → LinkGiven tells more_of mid new y z r → LinkGiven tells (more_of ++ frames_of o.frames.items) old new x z r
   out_both items old mid new x y z r same first second =
-      did_then tells (frames_of o.frames.items) more_of old mid new x y z r (as_frames items old mid x y (Ok tt) same first) second
+      given_then tells (frames_of o.frames.items) more_of old mid new x y z r (as_frames items old mid x y (Ok tt) same first) second
 
   -- all of them did, and a part of what goes to a peer besides
   pub more_fails : (items : List OutFrame) (old mid new : List LinkAct) (x y z : FaultCounts) (fault : LinkFault) → items ≡ o.frames.items
-      → LinkDid tells (frames_of items) old mid x y (Ok tt) → LinkDid tells more_of mid new y z (Err fault) → LinkDid tells (acts_by keeping o) old new x z (Err fault)
+      → LinkGiven tells (frames_of items) old mid x y (Ok tt) → LinkGiven tells more_of mid new y z (Err fault) → LinkGiven tells (acts_by keeping o) old new x z (Err fault)
   more_fails items old mid new x y z fault same first second =
-      did_fails tells (more_of ++ frames_of o.frames.items) (replies_of o.replies.items) old new x z fault (out_both items old mid new x y z (Err fault) same first second)
+      given_fails tells (more_of ++ frames_of o.frames.items) (replies_of o.replies.items) old new x z fault (out_both items old mid new x y z (Err fault) same first second)
 
   -- all of it did, and then the replies or a part of them
   pub replies_then : (items : List OutFrame) (replies : List Reply) (old mid then new : List LinkAct) (x y z k : FaultCounts) (r : Result (Unit {0}) LinkFault)
-      → items ≡ o.frames.items → replies ≡ o.replies.items → LinkDid tells (frames_of items) old mid x y (Ok tt) → LinkDid tells more_of mid then y z (Ok tt)
-      → LinkDid tells (replies_of replies) then new z k r → LinkDid tells (acts_by keeping o) old new x k r
+      → items ≡ o.frames.items → replies ≡ o.replies.items → LinkGiven tells (frames_of items) old mid x y (Ok tt) → LinkGiven tells more_of mid then y z (Ok tt)
+      → LinkGiven tells (replies_of replies) then new z k r → LinkGiven tells (acts_by keeping o) old new x k r
   replies_then items replies old mid then new x y z k r same are first second third =
-      did_then tells (more_of ++ frames_of o.frames.items) (replies_of o.replies.items) old then new x z k r (out_both items old mid then x y z (Ok tt) same first second)
-      (subst (λ (l : List Reply). LinkDid tells (replies_of l) then new z k r) are third)
+      given_then tells (more_of ++ frames_of o.frames.items) (replies_of o.replies.items) old then new x z k r (out_both items old mid then x y z (Ok tt) same first second)
+      (subst (λ (l : List Reply). LinkGiven tells (replies_of l) then new z k r) are third)
 
 -- ---- what doesn't go by what is kept
 
@@ -139,12 +141,12 @@ AreSettled os = AllByRecursion (λ o. is_again o.more ≡ false) os
 more_settled : (p q : Keeping) (at : ℕ) (goes : More) → is_again goes ≡ false → more_by p at goes ≡ more_by q at goes
 more_settled p q at mores.Nothing calm = refl
 more_settled p q at (mores.Note peer bytes) calm = refl
-more_settled p q at (mores.Kept peer) calm = absurd (cc)
+more_settled p q at (mores.Kept peer part) calm = absurd (cc)
 
 fit_settled : (w : Setting) (q : Keeping) (at : ℕ) (goes : More) → is_again goes ≡ false → FitsPeers w q at goes
 fit_settled w q at mores.Nothing calm = tt
 fit_settled w q at (mores.Note peer bytes) calm = tt
-fit_settled w q at (mores.Kept peer) calm = absurd (cc)
+fit_settled w q at (mores.Kept peer part) calm = absurd (cc)
 
 one_settled : (p q : Keeping) (o : Output) → is_again o.more ≡ false → acts_by p o ≡ acts_by q o
 one_settled p q o calm =
@@ -169,20 +171,22 @@ now_nothing w at more brings = record { besides = brings; again = sym (ap has_re
 pub now_note : (w : Setting) (at peer : ℕ) (bytes : _) (more : Brought) → IsMore w at (mores.Note peer bytes) more → IsMoreNow w at (mores.Note peer bytes) more
 now_note w at peer bytes more brings = record { besides = brings; again = sym brings.1 }
 
-pub now_as : (w : Setting) (at : ℕ) (goes : More) (more : Brought) → ((peer : ℕ) → goes ≡ mores.Kept peer → ⊥) → IsMore w at goes more → IsMoreNow w at goes more
+pub now_as : (w : Setting) (at : ℕ) (goes : More) (more : Brought) → ((peer : ℕ) (part : Part) → goes ≡ mores.Kept peer part → ⊥) → IsMore w at goes more → IsMoreNow w at goes more
 now_as w at mores.Nothing more other brings = now_nothing w at more brings
 now_as w at (mores.Note peer bytes) more other brings = now_note w at peer bytes more brings
-now_as w at (mores.Kept peer) more other brings = absurd (other peer refl)
+now_as w at (mores.Kept peer part) more other brings = absurd (other peer part refl)
 
-pub now_none : (w : Setting) (at peer : ℕ) (more : Brought) → IsMore w at (mores.Kept peer) more → length (more.peers.keeping at peer) ≡ 0 → IsMoreNow w at mores.Nothing more
-now_none w at peer more brings none = now_nothing w at more (brings.1 ∙ by_kept (more.peers.keeping at peer) none)
+pub now_none : (w : Setting) (at peer : ℕ) (part : Part) (more : Brought) → IsMore w at (mores.Kept peer part) more → length (part_of part (more.peers.keeping at peer)) ≡ 0
+    → IsMoreNow w at mores.Nothing more
+now_none w at peer part more brings none = now_nothing w at more (brings.1 ∙ by_kept (part_of part (more.peers.keeping at peer)) none)
   where
     by_kept : (kept : List Kept) → length kept ≡ 0 → map (λ k. Resent at peer k.frame) kept ≡ []
     by_kept [] is = refl
     by_kept (k ∷ kept) is = absurd (omega (arith, is))
 
-pub now_some : (w : Setting) (at peer : ℕ) (more : Brought) → IsMore w at (mores.Kept peer) more → (length (more.peers.keeping at peer) ≡ 0 → ⊥) → IsMoreNow w at (mores.Kept peer) more
-now_some w at peer more brings some = record { besides = brings; again = by_kept (more.peers.keeping at peer) some ∙ sym (ap has_resent brings.1) }
+pub now_some : (w : Setting) (at peer : ℕ) (part : Part) (more : Brought) → IsMore w at (mores.Kept peer part) more → (length (part_of part (more.peers.keeping at peer)) ≡ 0 → ⊥)
+    → IsMoreNow w at (mores.Kept peer part) more
+now_some w at peer part more brings some = record { besides = brings; again = by_kept (part_of part (more.peers.keeping at peer)) some ∙ sym (ap has_resent brings.1) }
   where
     by_kept : (kept : List Kept) → (length kept ≡ 0 → ⊥) → true ≡ has_resent (map (λ k. Resent at peer k.frame) kept)
     by_kept [] some = absurd (some refl)

@@ -7,6 +7,8 @@ use Rattle.std.proofs.lemmas.Bool.Decides.{eqb_tells}
 use Rattle.std.proofs.lemmas.List.{length-set}
 use Rattle.std.proofs.lemmas.Option.{same_Some, slice_get-get_or}
 use Rattle.ritas_base.specs.declared.event.Event.{Event}
+use Rattle.ritas_base.specs.declared.mode.FrameVersion.{FrameVersion}
+use Rattle.ritas_base.specs.declared.mode.FrameVersion.TheVariants.{One, Two, Three}
 use Rattle.ritas_base.specs.declared.event.Event.TheVariants as events
 use Rattle.ritas_base.specs.declared.item.Item.{Item}
 use Rattle.frame_codec.specs.declared.fault.BodyFault.{BodyFault}
@@ -23,6 +25,7 @@ use Rattle.ritas_core.specs.Machine.{CoreState}
 use Rattle.ritas_core.specs.Rules.{Rules}
 use Rattle.ritas_core.specs.Stands.{Meaning}
 use Rattle.link_resume.specs.declared.kept.Kept.{Kept}
+use Rattle.link_resume.specs.Lists.{Keepings, all_but}
 use Rattle.outside.specs.declared.link.LinkItem.{LinkItem}
 use Rattle.outside.specs.declared.link.LinkItem.TheVariants as items
 use Rattle.replica.specs.declared.refusal.Refusal.{Refusal}
@@ -43,13 +46,14 @@ use Rattle.node_loop.specs.declared.house.House.{House}
 use Rattle.node_loop.specs.declared.output.Output.{Output}
 use Rattle.node_loop.specs.declared.peers.Keeper.{Keeper}
 use Rattle.node_loop.specs.declared.peers.Mark.{Mark}
+use Rattle.node_loop.specs.declared.peers.Pending.{Pending}
 use Rattle.node_loop.specs.declared.waiting.Waiters.{Waiters}
 use Rattle.node_loop.specs.Waiting.{Waiting}
 use Rattle.node_loop.specs.Calls.{Outcome, event_called, silent, item_does, waiting_left_by, replies_by}
 use Rattle.node_loop.specs.Deeds.{Acked}
-use Rattle.node_loop.specs.Peers.{Peers, is_pair, with_list, with_mark, keep_all}
-use Rattle.node_loop.specs.PeersStanding.{AreKept, IsKeeper}
-use Rattle.node_loop.specs.Resending.{Brought, nothing_more, mark_at, is_deferred, opened_so, noted_so, item_brings}
+use Rattle.node_loop.specs.Peers.{Peers, is_pair, with_list, with_mark, with_pending, acknowledged, keep_all}
+use Rattle.node_loop.specs.PeersStanding.{AreKept, AreMarked, ArePending, IsKeeper}
+use Rattle.node_loop.specs.Resending.{Brought, nothing_more, mark_at, is_deferred, opened_so, sends_batch, goes_on, acked_so, connected, noted_so, item_brings}
 use Rattle.node_loop.specs.Serving.{frames_made_by}
 use Rattle.node_loop.specs.Served.{AreHere}
 use Rattle.node_loop.specs.Standing.{HouseStands, ComesOut, IsEmptyOutput, IsMore, is_answer_opened, reply_by}
@@ -75,29 +79,89 @@ this_pair : (i j : ℕ) → is_pair i j i j ≡ true
 this_pair i j = ap₂ (λ (s t : Bool). s && t) (eq-eqb i i refl) (eq-eqb j j refl)
 
 -- what another replica keeps stays
-pub list_elsewhere : (n i at j : ℕ) (list : List Kept) (keeper : Keeper) (p : Peers) → (i ≡ at → ⊥) → IsKeeper n i keeper p → IsKeeper n i keeper (with_list at j list p)
-list_elsewhere n i at j list keeper p other is = record {
+pub list_elsewhere : (version : FrameVersion) (n i at j : ℕ) (list : List Kept) (keeper : Keeper) (p : Peers) → (i ≡ at → ⊥) → IsKeeper version n i keeper p
+    → IsKeeper version n i keeper (with_list at j list p)
+list_elsewhere version n i at j list keeper p other is = record {
+  version_is = is.version_is;
   kept = record {
+    limit = is.kept.limit;
     many = is.kept.many;
     each = λ k within. is.kept.each k within ∙ sym (ap (λ (t : Bool). if t then list else p.keeping i k) (not_first at j i k other));
   };
   marked = is.marked;
+  pending = is.pending;
 }
 
-pub mark_elsewhere : (n i at j : ℕ) (mark : Option Mark) (keeper : Keeper) (p : Peers) → (i ≡ at → ⊥) → IsKeeper n i keeper p → IsKeeper n i keeper (with_mark at j mark p)
-mark_elsewhere n i at j mark keeper p other is = record {
+pub mark_elsewhere : (version : FrameVersion) (n i at j : ℕ) (mark : Option Mark) (keeper : Keeper) (p : Peers) → (i ≡ at → ⊥) → IsKeeper version n i keeper p
+    → IsKeeper version n i keeper (with_mark at j mark p)
+mark_elsewhere version n i at j mark keeper p other is = record {
+  version_is = is.version_is;
   kept = is.kept;
   marked = record {
     many = is.marked.many;
     each = λ k within. is.marked.each k within ∙ sym (ap (λ (t : Bool). if t then mark else p.marks i k) (not_first at j i k other));
   };
+  pending = is.pending;
 }
 
+-- how far it went to a peer of another replica
+pub pending_elsewhere : (version : FrameVersion) (n i at j : ℕ) (pending : Option Pending) (keeper : Keeper) (p : Peers) → (i ≡ at → ⊥) → IsKeeper version n i keeper p
+    → IsKeeper version n i keeper (with_pending at j pending p)
+pending_elsewhere version n i at j pending keeper p other is = record {
+  version_is = is.version_is;
+  kept = is.kept;
+  marked = is.marked;
+  pending = record {
+    many = is.pending.many;
+    each = λ k within. is.pending.each k within ∙ sym (ap (λ (t : Bool). if t then pending else p.pending i k) (not_first at j i k other));
+  };
+}
+
+-- whatever comes of an acknowledgement, or of a connection
+pub batch_elsewhere : (version : FrameVersion) (n i at j : ℕ) (after : Option ℕ) (end : ℕ) (keeper : Keeper) (p : Peers) → (i ≡ at → ⊥) → IsKeeper version n i keeper p
+    → IsKeeper version n i keeper (sends_batch at j after end p).peers
+batch_elsewhere version n i at j after end keeper p other is = pending_elsewhere version n i at j _ keeper p other is
+
+either_elsewhere : (version : FrameVersion) (n i : ℕ) (keeper : Keeper) (x y : Brought) (b : Bool) → IsKeeper version n i keeper x.peers → IsKeeper version n i keeper y.peers
+    → IsKeeper version n i keeper (if b then x else y).peers
+either_elsewhere version n i keeper x y true first second = first
+either_elsewhere version n i keeper x y false first second = second
+
+goes_on_elsewhere : (version : FrameVersion) (n i at j seq : ℕ) (pending : Option Pending) (keeper : Keeper) (p : Peers) → (i ≡ at → ⊥) → IsKeeper version n i keeper p
+    → IsKeeper version n i keeper (goes_on at j seq pending p).peers
+goes_on_elsewhere version n i at j seq None keeper p other is = is
+goes_on_elsewhere version n i at j seq (Some pending) keeper p other is =
+    either_elsewhere version n i keeper (sends_batch at j (Some seq) pending.end p) (nothing_more p) (pending.last == seq)
+    (batch_elsewhere version n i at j (Some seq) pending.end keeper p other is) is
+
+acked_by : (by version : FrameVersion) (n i at j seq : ℕ) (keeper : Keeper) (p : Peers) → (i ≡ at → ⊥) → IsKeeper version n i keeper (acknowledged at j seq p)
+    → IsKeeper version n i keeper (acked_so by at j seq p).peers
+acked_by One version n i at j seq keeper p other is = is
+acked_by Two version n i at j seq keeper p other is = is
+acked_by Three version n i at j seq keeper p other is = goes_on_elsewhere version n i at j seq (p.pending at j) keeper (acknowledged at j seq p) other is
+
+pub acked_elsewhere : (version : FrameVersion) (n i at j seq : ℕ) (keeper : Keeper) (p : Peers) → (i ≡ at → ⊥) → IsKeeper version n i keeper p
+    → IsKeeper version n i keeper (acked_so version at j seq p).peers
+acked_elsewhere version n i at j seq keeper p other is =
+    acked_by version version n i at j seq keeper p other (list_elsewhere version n i at j (all_but seq (p.keeping at j)) keeper p other is)
+
+connected_by : (by version : FrameVersion) (n i at j : ℕ) (keeper : Keeper) (p : Peers) → (i ≡ at → ⊥) → IsKeeper version n i keeper p
+    → IsKeeper version n i keeper (connected by at j p).peers
+connected_by One version n i at j keeper p other is = is
+connected_by Two version n i at j keeper p other is = is
+connected_by Three version n i at j keeper p other is = batch_elsewhere version n i at j None _ keeper p other is
+
+pub connected_elsewhere : (version : FrameVersion) (n i at j : ℕ) (b : Bool) (keeper : Keeper) (p : Peers) → (i ≡ at → ⊥) → IsKeeper version n i keeper p
+    → IsKeeper version n i keeper (if b then connected version at j p else nothing_more p).peers
+connected_elsewhere version n i at j b keeper p other is =
+    either_elsewhere version n i keeper (connected version at j p) (nothing_more p) b (connected_by version version n i at j keeper p other is) is
+
 -- a peer got a mark
-pub mark_there : (n at j : ℕ) (mark : Option Mark) (old new : Keeper) (p : Peers) → IsKeeper n at old p → new.resume ≡ old.resume
-    → new.marks.items ≡ slice_set old.marks.items j mark → IsKeeper n at new (with_mark at j mark p)
-mark_there n at j mark old new p is same marks = record {
-  kept = let P : List (List Kept) → Type 0 = λ ls. AreKept n at ls p.keeping in subst P (sym same) is.kept;
+pub mark_there : (version : FrameVersion) (n at j : ℕ) (mark : Option Mark) (old new : Keeper) (p : Peers) → IsKeeper version n at old p → new ≡ record old { marks = new.marks }
+    → new.marks.items ≡ slice_set old.marks.items j mark → IsKeeper version n at new (with_mark at j mark p)
+mark_there version n at j mark old new p is rest marks = record {
+  version_is = ap (λ (k : Keeper). k.version) rest ∙ is.version_is;
+  kept = let P : Keepings → Type 0 = λ ls. AreKept version n at ls p.keeping in subst P (sym (ap (λ (k : Keeper). k.resume) rest)) is.kept;
   marked = record {
     many = ap length marks ∙ length-set old.marks.items j mark ∙ is.marked.many;
     each = λ k within. ap (λ xs. slice_index_or xs k None) marks ∙ elim (cases_eq k j) [
@@ -110,6 +174,28 @@ mark_there n at j mark old new p is same marks = record {
           ∙ sym (ap (λ (t : Bool). if t then mark else p.marks at k) (not_second at j k other))
     ];
   };
+  pending = let P : List (Option Pending) → Type 0 = λ ls. ArePending n at ls p.pending in subst P (sym (ap (λ (k : Keeper). k.pending.items) rest)) is.pending;
+}
+
+-- what is kept for it went out again so far
+pub pending_there : (version : FrameVersion) (n at j : ℕ) (pending : Option Pending) (old new : Keeper) (p : Peers) → IsKeeper version n at old p → new ≡ record old { pending = new.pending }
+    → new.pending.items ≡ slice_set old.pending.items j pending → IsKeeper version n at new (with_pending at j pending p)
+pending_there version n at j pending old new p is rest set = record {
+  version_is = ap (λ (k : Keeper). k.version) rest ∙ is.version_is;
+  kept = let P : Keepings → Type 0 = λ ls. AreKept version n at ls p.keeping in subst P (sym (ap (λ (k : Keeper). k.resume) rest)) is.kept;
+  marked = let P : List (Option Mark) → Type 0 = λ ls. AreMarked n at ls p.marks in subst P (sym (ap (λ (k : Keeper). k.marks.items) rest)) is.marked;
+  pending = record {
+    many = ap length set ∙ length-set old.pending.items j pending ∙ is.pending.many;
+    each = λ k within. ap (λ xs. slice_index_or xs k None) set ∙ elim (cases_eq k j) [
+      | inl one ↦
+          let here : j < length old.pending.items = omega (arith, within, one, is.pending.many) in
+          ap (λ x. slice_index_or (slice_set old.pending.items j pending) x None) one ∙ get_or-set_same old.pending.items j pending None here
+          ∙ sym (ap (λ (t : Bool). if t then pending else p.pending at k) (ap (is_pair at j at) one ∙ this_pair at j))
+      | inr other ↦
+          get_or-set_other old.pending.items j k pending None other ∙ is.pending.each k within
+          ∙ sym (ap (λ (t : Bool). if t then pending else p.pending at k) (not_second at j k other))
+    ];
+  };
 }
 
 -- ---- one keeper
@@ -120,7 +206,7 @@ at_item xs place x within is = slice_get-get_or xs place x within ∙ ap (λ y. 
 -- the keeper at a place
 pub keeper_at : {S E C : Type 0} (m : Meaning S E C KeyRow) (w : Setting) (es : List Event) (numbers : List ℕ) (house : House S E C) (ws : Waiting) (p : Peers) (place at : ℕ) (keeper : Keeper)
     → HouseStands m w es numbers house ws p → slice_get numbers place ≡ Some at → place < length house.keepers.items → keeper ≡ slice_index_or house.keepers.items place keeper
-    → IsKeeper w.numbers.n at keeper p
+    → IsKeeper w.mode.version w.numbers.n at keeper p
 keeper_at m w es numbers house ws p place at keeper stands number within is =
     stands.keepers place at keeper number (at_item house.keepers.items place keeper within is)
 
@@ -128,7 +214,7 @@ keeper_at m w es numbers house ws p place at keeper stands number within is =
 pub one_keeper : {S E C : Type 0} (m : Meaning S E C KeyRow) (w : Setting) (es : List Event) (numbers : List ℕ) (old now : House S E C) (ws : Waiting) (p q : Peers) (place at : ℕ) (was keeper : Keeper)
     → HouseStands m w es numbers old ws p → slice_get numbers place ≡ Some at → place < length old.keepers.items → was ≡ slice_index_or old.keepers.items place was
     → now.replicas ≡ old.replicas → now.waiting ≡ old.waiting → now.keepers.items ≡ slice_set old.keepers.items place keeper
-    → IsKeeper w.numbers.n at keeper q → ((i : ℕ) (k : Keeper) → (i ≡ at → ⊥) → IsKeeper w.numbers.n i k p → IsKeeper w.numbers.n i k q)
+    → IsKeeper w.mode.version w.numbers.n at keeper q → ((i : ℕ) (k : Keeper) → (i ≡ at → ⊥) → IsKeeper w.mode.version w.numbers.n i k p → IsKeeper w.mode.version w.numbers.n i k q)
     → HouseStands m w es numbers now ws q
 one_keeper {S = S} {E = E} {C = C} m w es numbers old now ws p q place at was keeper stands number within is reps waits items it others =
     let there = at_item old.keepers.items place was within is in
@@ -141,8 +227,8 @@ one_keeper {S = S} {E = E} {C = C} m w es numbers old now ws p q place at was ke
             let one : at ≡ i = same_Some at i (sym number ∙ ap (slice_get numbers) same.1 ∙ numbered) in
             let is_new : keeper ≡ other =
             same_Some keeper other (sym (get_set_same old.keepers.items place was keeper there) ∙ ap (slice_get (slice_set old.keepers.items place keeper)) same.1 ∙ sym (ap (λ xs. slice_get xs k) items) ∙ seen) in
-            let P : ℕ → Type 0 = λ x. IsKeeper w.numbers.n x keeper q in
-            let Q : Keeper → Type 0 = λ x. IsKeeper w.numbers.n i x q in
+            let P : ℕ → Type 0 = λ x. IsKeeper w.mode.version w.numbers.n x keeper q in
+            let Q : Keeper → Type 0 = λ x. IsKeeper w.mode.version w.numbers.n i x q in
             subst Q is_new (subst P one it)
         | inr apart ↦
             others i other (λ one. apart.1 (stands.here.apart place k i (number ∙ ap (λ x. Some x) (sym one)) numbered))
@@ -156,9 +242,10 @@ pub comes_with : {S E C : Type 0} (m : Meaning S E C KeyRow) (w : Setting) (es :
 comes_with m w es numbers now output did more other same comes = let P : Brought → Type 0 = λ x. ComesOut m w es numbers now output did x in subst P same comes
 
 -- a mark stays where frames are kept
-pub keep_marked : (fs : List MadeFrame) (i j : ℕ) (mark : Option Mark) (p : Peers) → keep_all fs (with_mark i j mark p) ≡ with_mark i j mark (keep_all fs p)
-keep_marked [] i j mark p = refl
-keep_marked (f ∷ fs) i j mark p = keep_marked fs i j mark _
+pub keep_marked : (version : FrameVersion) (fs : List MadeFrame) (i j : ℕ) (mark : Option Mark) (p : Peers)
+    → keep_all version fs (with_mark i j mark p) ≡ with_mark i j mark (keep_all version fs p)
+keep_marked version [] i j mark p = refl
+keep_marked version (f ∷ fs) i j mark p = keep_marked version fs i j mark _
 
 -- the same mark by another name
 pub marked_so : {S E C : Type 0} (m : Meaning S E C KeyRow) (w : Setting) (es : List Event) (numbers : List ℕ) (now : House S E C) (ws : Waiting) (at j : ℕ) (mark other : Mark) (p : Peers) → mark ≡ other
@@ -209,7 +296,7 @@ answered_opens w es at bytes answer going right saw =
 pub record Heard {S E C : Type 0} (m : Meaning S E C KeyRow) (w : Setting) (es : List Event) (numbers : List ℕ) (now : House S E C) (ws : Waiting) (at : ℕ) (e : Event) (out : More) (brought : Brought) : Type 0 where
   pub before : Peers
   pub besides : IsMore w at out brought
-  pub kept : keep_all (frames_made_by w es (Some e)) before ≡ brought.peers
+  pub kept : keep_all w.mode.version (frames_made_by w es (Some e)) before ≡ brought.peers
   pub stands : HouseStands m w (e ∷ es) numbers now ws before
 
 heard_as : {S E C : Type 0} (m : Meaning S E C KeyRow) (w : Setting) (es : List Event) (numbers : List ℕ) (now : House S E C) (ws : Waiting) (at : ℕ) (e : Event) (out : More) (brought other : Brought)
@@ -224,18 +311,18 @@ opened_comes : {S E C : Type 0} (m : Meaning S E C KeyRow) (w : Setting) (es : L
     → (is_deferred (seen_answer answer) ≡ true
     → HouseStands m w (events.Frame at bytes ∷ es) numbers now ws (with_mark at frame.from (Some (mark_at w (events.Frame at bytes ∷ es) at frame.from)) p) × (out ≡ was))
     → (is_deferred (seen_answer answer) ≡ false → frame.from < w.numbers.n → (now ≡ given) × (out ≡ mores.Note frame.from (ack_note (w.keys at) frame.from frame.seq)))
-    → Heard m w es numbers now ws at (events.Frame at bytes) out (opened_so w es at bytes (keep_all (frames_made_by w es (Some (events.Frame at bytes))) p) (Ok o))
+    → Heard m w es numbers now ws at (events.Frame at bytes) out (opened_so w es at bytes (keep_all w.mode.version (frames_made_by w es (Some (events.Frame at bytes))) p) (Ok o))
 opened_comes m w es numbers given now ws p at bytes frame o was out answer true stands clear from_is seq_is below deferred told marks takes =
     let e = events.Frame at bytes in
     let fs = frames_made_by w es (Some e) in
     let marked = marks told in
     let mark : ℕ → Option Mark = λ j. Some (mark_at w (e ∷ es) at j) in
-    heard_as m w es numbers now ws at e out (nothing_more (with_mark at o.from (mark o.from) (keep_all fs p))) _
-    (sym (ap (λ (t : Bool). if t then nothing_more (with_mark at o.from (mark o.from) (keep_all fs p)) else record { deeds = Acked at o.from o.seq ∷ []; peers = keep_all fs p }) deferred))
+    heard_as m w es numbers now ws at e out (nothing_more (with_mark at o.from (mark o.from) (keep_all w.mode.version fs p))) _
+    (sym (ap (λ (t : Bool). if t then nothing_more (with_mark at o.from (mark o.from) (keep_all w.mode.version fs p)) else record { deeds = Acked at o.from o.seq ∷ []; peers = keep_all w.mode.version fs p }) deferred))
     (record {
       before = with_mark at frame.from (mark frame.from) p;
-      besides = is_none w at out (nothing_more (with_mark at o.from (mark o.from) (keep_all fs p))) (marked.1 ∙ clear) refl;
-      kept = keep_marked fs at frame.from (mark frame.from) p ∙ ap (λ j. with_mark at j (mark j) (keep_all fs p)) from_is;
+      besides = is_none w at out (nothing_more (with_mark at o.from (mark o.from) (keep_all w.mode.version fs p))) (marked.1 ∙ clear) refl;
+      kept = keep_marked w.mode.version fs at frame.from (mark frame.from) p ∙ ap (λ j. with_mark at j (mark j) (keep_all w.mode.version fs p)) from_is;
       stands = marked.0;
     })
 opened_comes {S = S} {E = E} {C = C} m w es numbers given now ws p at bytes frame o was out answer false stands clear from_is seq_is below deferred told marks takes =
@@ -244,11 +331,11 @@ opened_comes {S = S} {E = E} {C = C} m w es numbers given now ws p at bytes fram
     let took = takes told (omega (arith, below, from_is)) in
     let mark : ℕ → Option Mark = λ j. Some (mark_at w (e ∷ es) at j) in
     let note : ℕ → ℕ → More = λ j seq. mores.Note j (ack_note (w.keys at) j seq) in
-    heard_as m w es numbers now ws at e out (record { deeds = Acked at o.from o.seq ∷ []; peers = keep_all fs p }) _
-    (sym (ap (λ (t : Bool). if t then nothing_more (with_mark at o.from (mark o.from) (keep_all fs p)) else record { deeds = Acked at o.from o.seq ∷ []; peers = keep_all fs p }) deferred))
+    heard_as m w es numbers now ws at e out (record { deeds = Acked at o.from o.seq ∷ []; peers = keep_all w.mode.version fs p }) _
+    (sym (ap (λ (t : Bool). if t then nothing_more (with_mark at o.from (mark o.from) (keep_all w.mode.version fs p)) else record { deeds = Acked at o.from o.seq ∷ []; peers = keep_all w.mode.version fs p }) deferred))
     (record {
       before = p;
-      besides = let P : More → Type 0 = λ x. IsMore w at x (record { deeds = Acked at o.from o.seq ∷ []; peers = keep_all fs p }) in
+      besides = let P : More → Type 0 = λ x. IsMore w at x (record { deeds = Acked at o.from o.seq ∷ []; peers = keep_all w.mode.version fs p }) in
           subst P (sym (took.1 ∙ ap₂ note from_is seq_is)) (refl, refl);
       kept = refl;
       stands = let P : House S E C → Type 0 = λ x. HouseStands m w (e ∷ es) numbers x ws p in subst P (sym took.0) stands;
@@ -269,13 +356,13 @@ heard_by : {S E C : Type 0} (m : Meaning S E C KeyRow) (w : Setting) (es : List 
     HouseStands m w (events.Frame at bytes ∷ es) numbers now ws (with_mark at f.from (Some (mark_at w (events.Frame at bytes ∷ es) at f.from)) p) × (out ≡ was)))
     → (is_answer_opened answer ≡ true → is_deferred (seen_answer answer) ≡ false → IfSome carried (λ f.
     f.from < w.numbers.n → (now ≡ given) × (out ≡ mores.Note f.from (ack_note (w.keys at) f.from f.seq))))
-    → Heard m w es numbers now ws at (events.Frame at bytes) out (opened_so w es at bytes (keep_all (frames_made_by w es (Some (events.Frame at bytes))) p) o)
+    → Heard m w es numbers now ws at (events.Frame at bytes) out (opened_so w es at bytes (keep_all w.mode.version (frames_made_by w es (Some (events.Frame at bytes))) p) o)
 heard_by {S = S} {E = E} {C = C} m w es numbers given now ws p at bytes carried was out answer (Err fault) stands clear saw opened reads says none marks takes =
     let e = events.Frame at bytes in
     let same = none opened in
     record {
       before = p;
-      besides = is_none w at out (nothing_more (keep_all (frames_made_by w es (Some e)) p)) (same.1 ∙ clear) refl;
+      besides = is_none w at out (nothing_more (keep_all w.mode.version (frames_made_by w es (Some e)) p)) (same.1 ∙ clear) refl;
       kept = refl;
       stands = let P : House S E C → Type 0 = λ x. HouseStands m w (e ∷ es) numbers x ws p in subst P (sym same.0) stands;
     }
@@ -302,7 +389,7 @@ pub heard : {S E C : Type 0} (m : Meaning S E C KeyRow) (w : Setting) (es : List
     HouseStands m w (events.Frame at bytes ∷ es) numbers now ws (with_mark at f.from (Some (mark_at w (events.Frame at bytes ∷ es) at f.from)) p) × (out ≡ was)))
     → (is_answer_opened answer ≡ true → is_deferred (seen_answer answer) ≡ false → IfSome carried (λ f.
     f.from < w.numbers.n → (now ≡ given) × (out ≡ mores.Note f.from (ack_note (w.keys at) f.from f.seq))))
-    → Heard m w es numbers now ws at (events.Frame at bytes) out (opened_so w es at bytes (keep_all (frames_made_by w es (Some (events.Frame at bytes))) p) (opening (w.keys at) bytes))
+    → Heard m w es numbers now ws at (events.Frame at bytes) out (opened_so w es at bytes (keep_all w.mode.version (frames_made_by w es (Some (events.Frame at bytes))) p) (opening (w.keys at) bytes))
 heard m w es numbers old given now ws p place at bytes carried was out answer stand number stands clear saw reads parts peer none marks takes =
     let right = right_at m w es numbers old place at stand number in
     let own : (w.keys at).n ≡ w.numbers.n = (stand.kind.own at (stand.kind.within at right)).1 in
@@ -324,7 +411,7 @@ entered_at m w es numbers now count ws p after quiet k at same entered =
 -- what comes of an item of the link
 abbrev pub ComesOf : {S E C : Type 0} → Meaning S E C KeyRow → Setting → List Event → List ℕ → House S E C → Output → Waiting → Peers → LinkItem → Type 0
 ComesOf m w es numbers now output ws p item =
-    ComesOut m w es numbers now output (item_does w es item ws) (item_brings w es item (keep_all (frames_made_by w es (item_does w es item ws).event) p))
+    ComesOut m w es numbers now output (item_does w es item ws) (item_brings w es item (keep_all w.mode.version (frames_made_by w es (item_does w es item ws).event) p))
 
 pub same_item : {S E C : Type 0} (m : Meaning S E C KeyRow) (w : Setting) (es : List Event) (numbers : List ℕ) (now : House S E C) (output : Output) (ws : Waiting) (p : Peers) (item other : LinkItem) → item ≡ other
     → ComesOf m w es numbers now output ws p item → ComesOf m w es numbers now output ws p other
@@ -336,12 +423,12 @@ frame_does w es to bytes ws right note = if right then (if note then silent [] w
 
 abbrev frame_brings : Setting → List Event → ℕ → List ℕ → Peers → Bool → Bool → Brought
 frame_brings w es to bytes p right note =
-    if right then (if note then noted_so to p (noted (w.keys to) bytes) else opened_so w es to bytes p (opening (w.keys to) bytes)) else nothing_more p
+    if right then (if note then noted_so w.mode.version to p (noted (w.keys to) bytes) else opened_so w es to bytes p (opening (w.keys to) bytes)) else nothing_more p
 
 abbrev FrameComes : {S E C : Type 0} → Meaning S E C KeyRow → Setting → List Event → List ℕ → House S E C → Output → Waiting → Peers → ℕ → List ℕ → Bool → Bool → Type 0
 FrameComes m w es numbers now output ws p to bytes right note =
     ComesOut m w es numbers now output (frame_does w es to bytes ws right note)
-    (frame_brings w es to bytes (keep_all (frames_made_by w es (frame_does w es to bytes ws right note).event) p) right note)
+    (frame_brings w es to bytes (keep_all w.mode.version (frames_made_by w es (frame_does w es to bytes ws right note).event) p) right note)
 
 by_tests : {S E C : Type 0} (m : Meaning S E C KeyRow) (w : Setting) (es : List Event) (numbers : List ℕ) (now : House S E C) (output : Output) (ws : Waiting) (p : Peers) (to : ℕ) (bytes : List ℕ) (right note : Bool)
     → w.is_correct to ≡ right → is_note bytes ≡ note → FrameComes m w es numbers now output ws p to bytes right note → ComesOf m w es numbers now output ws p (items.Frame to bytes)
@@ -357,15 +444,15 @@ frame_nowhere m w es numbers now output ws p to bytes faulty stands clear =
     by_tests m w es numbers now output ws p to bytes false (is_note bytes) faulty refl (nothing_comes m w es numbers now output ws p stands clear)
 
 pub note_here : {S E C : Type 0} (m : Meaning S E C KeyRow) (w : Setting) (es : List Event) (numbers : List ℕ) (now : House S E C) (output : Output) (ws : Waiting) (p : Peers) (to at : ℕ) (bytes read : List ℕ)
-    → w.is_correct to ≡ true → is_note read ≡ true → at ≡ to → read ≡ bytes → ComesOut m w es numbers now output (silent [] ws) (noted_so at p (noted (w.keys at) read))
+    → w.is_correct to ≡ true → is_note read ≡ true → at ≡ to → read ≡ bytes → ComesOut m w es numbers now output (silent [] ws) (noted_so w.mode.version at p (noted (w.keys at) read))
     → ComesOf m w es numbers now output ws p (items.Frame to bytes)
 note_here m w es numbers now output ws p to at bytes read right note at_is read_is comes =
     by_tests m w es numbers now output ws p to bytes true true right (ap is_note (sym read_is) ∙ note)
-    (comes_with m w es numbers now output (silent [] ws) (noted_so at p (noted (w.keys at) read)) (noted_so to p (noted (w.keys to) bytes)) (ap₂ (λ k b. noted_so k p (noted (w.keys k) b)) at_is read_is) comes)
+    (comes_with m w es numbers now output (silent [] ws) (noted_so w.mode.version at p (noted (w.keys at) read)) (noted_so w.mode.version to p (noted (w.keys to) bytes)) (ap₂ (λ k b. noted_so w.mode.version k p (noted (w.keys k) b)) at_is read_is) comes)
 
 pub frame_here : {S E C : Type 0} (m : Meaning S E C KeyRow) (w : Setting) (es : List Event) (numbers : List ℕ) (now : House S E C) (output : Output) (ws : Waiting) (p : Peers) (to : ℕ) (bytes read : List ℕ)
     → w.is_correct to ≡ true → is_note read ≡ false → read ≡ bytes
-    → ComesOut m w es numbers now output (event_called w es to (events.Frame to bytes) ws) (opened_so w es to bytes (keep_all (frames_made_by w es (Some (events.Frame to bytes))) p) (opening (w.keys to) bytes))
+    → ComesOut m w es numbers now output (event_called w es to (events.Frame to bytes) ws) (opened_so w es to bytes (keep_all w.mode.version (frames_made_by w es (Some (events.Frame to bytes))) p) (opening (w.keys to) bytes))
     → ComesOf m w es numbers now output ws p (items.Frame to bytes)
 frame_here m w es numbers now output ws p to bytes read right note read_is comes =
     by_tests m w es numbers now output ws p to bytes true false right (ap is_note (sym read_is) ∙ note) comes

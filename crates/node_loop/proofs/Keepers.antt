@@ -96,13 +96,13 @@ first_due w es p i j below passes none =
     (map (pair_of i) found.0, ap (map (pair_of i)) found.1)
 
 -- no peer is marked
-pub no_marks : (w : Setting) (es : List Event) (p : Peers) (i : ℕ) (keeper : Keeper) → IsKeeper w.numbers.n i keeper p
+pub no_marks : (w : Setting) (es : List Event) (p : Peers) (i : ℕ) (keeper : Keeper) → IsKeeper w.mode.version w.numbers.n i keeper p
     → ((j : ℕ) → slice_index_or keeper.marks.items j None ≡ None) → peers_due w es p i ≡ []
 no_marks w es p i keeper is none =
     none_due w es p i (λ j below. ap (λ (o : Option Mark). is_due_of o (mark_at w es i j)) (sym (is.marked.each j below) ∙ none j))
 
 -- what was read of a peer
-pub due_read : (w : Setting) (es : List Event) (p : Peers) (i j progress held : ℕ) (keeper : Keeper) (was : Option Mark) (said : Bool) → IsKeeper w.numbers.n i keeper p → j < w.numbers.n
+pub due_read : (w : Setting) (es : List Event) (p : Peers) (i j progress held : ℕ) (keeper : Keeper) (was : Option Mark) (said : Bool) → IsKeeper w.mode.version w.numbers.n i keeper p → j < w.numbers.n
     → progress ≡ replica_progress (rules_at w i) (states_of w es i) w.numbers.n → held ≡ held_bytes (states_of w es i).held j
     → was ≡ slice_index_or keeper.marks.items j None → said ≡ is_due_of was (record { progress = progress; held = held }) → said ≡ is_due_at w es p i j
 due_read w es p i j progress held keeper was said is below come holds read saw =

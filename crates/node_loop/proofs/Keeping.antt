@@ -1,8 +1,8 @@
 -- A frame more is kept, or isn't since too many bytes would be.
-use Rattle.std.specs.Prelude.{◌≡◌, ℕ, ◌+◌, ◌==◌, ◌&&◌, ◌<◌, ◌≤◌, Bool, true, false, List, [], ◌∷◌, ◌++◌, length, slice_set, slice_index_or, refl, if◌then◌else◌}
+use Rattle.std.specs.Prelude.{◌≡◌, ℕ, ◌+◌, ◌==◌, ◌&&◌, ◌<◌, ◌≤◌, Bool, true, false, List, [], ◌∷◌, ◌++◌, length, slice_set, slice_index_or, Option, refl, if◌then◌else◌}
 use Rattle.std.proofs.Common.{sym, ◌∙◌, ap, ap₂, subst, inl, inr, arith, get_or-set_other, get_or-set_same}
 use Rattle.std.proofs.Math.ListN.{length-set}
-use Rattle.std.proofs.lemmas.Bool.{cases_Bool, cases_eq, eq-eqb, eqb-true, le-leb, lt-leb}
+use Rattle.std.proofs.lemmas.Bool.{cases_Bool, cases_eq, eq-eqb, eqb-true}
 use Rattle.std.specs.Prelude.{map, take}
 use Rattle.std.proofs.Common.{get_or}
 use Rattle.std.proofs.lemmas.List.{map_more}
@@ -10,7 +10,8 @@ use Rattle.replica.specs.Out.{OutFrame}
 use Rattle.world_model.specs.MadeOrder.{MadeFrame}
 use Rattle.keyed_channel.specs.Frames.{seq_of}
 use Rattle.link_resume.specs.declared.kept.Kept.{Kept}
-use Rattle.link_resume.specs.Lists.{kept_for, bytes_in, most_kept_bytes, with_frame_kept}
+use Rattle.ritas_base.specs.declared.mode.FrameVersion.{FrameVersion}
+use Rattle.link_resume.specs.Lists.{Keepings, kept_for, bytes_in, most_kept, may_have, IsWithin, IsOver, with_frame_kept, with_list as list_set}
 use Rattle.node_loop.specs.Peers.{Peers, is_pair, with_list, keeps, keep_one, keep_all}
 use Rattle.node_loop.specs.PeersStanding.{AreKept, made_as}
 
@@ -23,67 +24,83 @@ pair_other i peer j other = elim (cases_Bool (j == peer)) [
   | inr not_same ↦ ap₂ (λ (a b : Bool). a && b) (eq-eqb i i refl) not_same
 ]
 
-keeps_more : (frame : List ℕ) (ks : List Kept) → bytes_in ks + length frame ≤ most_kept_bytes → keeps frame ks ≡ ks ++ record { seq = seq_of frame; frame = frame } ∷ []
-keeps_more frame ks room =
-    ap (λ (b : Bool). if b then ks ++ record { seq = seq_of frame; frame = frame } ∷ [] else ks) (le-leb (bytes_in ks + length frame) most_kept_bytes room)
+keeps_more : (version : FrameVersion) (frame : List ℕ) (ks : List Kept) → IsWithin (most_kept version) (bytes_in ks + length frame)
+    → keeps version frame ks ≡ ks ++ record { seq = seq_of frame; frame = frame } ∷ []
+keeps_more version frame ks room = ap (λ (b : Bool). if b then ks ++ record { seq = seq_of frame; frame = frame } ∷ [] else ks) room
 
-keeps_none : (frame : List ℕ) (ks : List Kept) → most_kept_bytes < bytes_in ks + length frame → keeps frame ks ≡ ks
-keeps_none frame ks full =
-    ap (λ (b : Bool). if b then ks ++ record { seq = seq_of frame; frame = frame } ∷ [] else ks) (lt-leb (bytes_in ks + length frame) most_kept_bytes full)
+keeps_none : (version : FrameVersion) (frame : List ℕ) (ks : List Kept) → IsOver (most_kept version) (bytes_in ks + length frame) → keeps version frame ks ≡ ks
+keeps_none version frame ks full = ap (λ (b : Bool). if b then ks ++ record { seq = seq_of frame; frame = frame } ∷ [] else ks) full
 
 -- what is kept for one peer is this list, and the others' lists stay
-pub one_list : (n i peer : ℕ) (list : List Kept) (lists : List (List Kept)) (p : Peers) → AreKept n i lists p.keeping → peer < n
-    → AreKept n i (slice_set lists peer list) (with_list i peer list p).keeping
-one_list n i peer list lists p kept here = record {
-  many = length-set lists peer list ∙ kept.many;
+pub one_list : (version : FrameVersion) (n i peer : ℕ) (list : List Kept) (kept : Keepings) (p : Peers) → AreKept version n i kept p.keeping → peer < n
+    → AreKept version n i (list_set kept peer list) (with_list i peer list p).keeping
+one_list version n i peer list kept p are here = record {
+  limit = are.limit;
+  many = length-set kept.lists peer list ∙ are.many;
   each = λ j within. elim (cases_eq j peer) [
     | inl same ↦
-        let lt : peer < length lists = omega (arith, here, kept.many) in
-        ap (λ (k : ℕ). slice_index_or (slice_set lists peer list) k []) same
-        ∙ (get_or-set_same lists peer list [] lt
+        let lt : peer < length kept.lists = omega (arith, here, are.many) in
+        ap (λ (k : ℕ). slice_index_or (slice_set kept.lists peer list) k []) same
+        ∙ (get_or-set_same kept.lists peer list [] lt
         ∙ sym (ap (λ (b : Bool). if b then list else p.keeping i j) (ap (is_pair i peer i) same ∙ pair_same i peer)))
     | inr other ↦
-        get_or-set_other lists peer j list [] other
-        ∙ (kept.each j within ∙ sym (ap (λ (b : Bool). if b then list else p.keeping i j) (pair_other i peer j other)))
+        get_or-set_other kept.lists peer j list [] other
+        ∙ (are.each j within ∙ sym (ap (λ (b : Bool). if b then list else p.keeping i j) (pair_other i peer j other)))
   ];
 }
 
-pub kept_more : (n i peer seq : ℕ) (frame : List ℕ) (lists now : List (List Kept)) (p : Peers) → AreKept n i lists p.keeping → peer < n → seq ≡ seq_of frame
-    → now ≡ with_frame_kept lists peer seq frame → bytes_in (kept_for lists peer) + length frame ≤ most_kept_bytes
-    → AreKept n i now (with_list i peer (keeps frame (p.keeping i peer)) p).keeping
-kept_more n i peer seq frame lists now p kept here number is room =
-    let same = kept.each peer here in
-    let list : kept_for lists peer ++ record { seq = seq; frame = frame } ∷ [] ≡ keeps frame (p.keeping i peer) =
-    ap₂ (λ (ks : List Kept) (s : ℕ). ks ++ record { seq = s; frame = frame } ∷ []) same number
-    ∙ sym (keeps_more frame (p.keeping i peer) (subst (λ (ks : List Kept). bytes_in ks + length frame ≤ most_kept_bytes) same room)) in
-    subst (λ (ls : List (List Kept)). AreKept n i ls (with_list i peer (keeps frame (p.keeping i peer)) p).keeping)
-    (ap (slice_set lists peer) (sym list) ∙ sym is) (one_list n i peer (keeps frame (p.keeping i peer)) lists p kept here)
+-- there is as much room as is said
+same_room : (version : FrameVersion) (n i peer size : ℕ) (kept : Keepings) (p : Peers) (b : Bool) → AreKept version n i kept p.keeping → peer < n
+    → may_have kept.limit (bytes_in (kept_for kept.lists peer) + size) ≡ b → may_have (most_kept version) (bytes_in (p.keeping i peer) + size) ≡ b
+same_room version n i peer size kept p b are here is =
+    sym (ap₂ (λ (limit : Option ℕ) (ks : List Kept). may_have limit (bytes_in ks + size)) are.limit (are.each peer here)) ∙ is
 
-pub kept_full : (n i peer : ℕ) (frame : List ℕ) (lists now : List (List Kept)) (p : Peers) → AreKept n i lists p.keeping → peer < n
-    → now ≡ lists → most_kept_bytes < bytes_in (kept_for lists peer) + length frame
-    → AreKept n i now (with_list i peer (keeps frame (p.keeping i peer)) p).keeping
-kept_full n i peer frame lists now p kept here is full =
-    let same = kept.each peer here in
-    let none = keeps_none frame (p.keeping i peer) (subst (λ (ks : List Kept). most_kept_bytes < bytes_in ks + length frame) same full) in
+pub kept_more : (version : FrameVersion) (n i peer seq : ℕ) (frame : List ℕ) (kept now : Keepings) (p : Peers) → AreKept version n i kept p.keeping → peer < n → seq ≡ seq_of frame
+    → now ≡ with_frame_kept kept peer seq frame → IsWithin kept.limit (bytes_in (kept_for kept.lists peer) + length frame)
+    → AreKept version n i now (with_list i peer (keeps version frame (p.keeping i peer)) p).keeping
+kept_more version n i peer seq frame kept now p are here number is room =
+    let same = are.each peer here in
+    let list : kept_for kept.lists peer ++ record { seq = seq; frame = frame } ∷ [] ≡ keeps version frame (p.keeping i peer) =
+    ap₂ (λ (ks : List Kept) (s : ℕ). ks ++ record { seq = s; frame = frame } ∷ []) same number
+    ∙ sym (keeps_more version frame (p.keeping i peer) (same_room version n i peer (length frame) kept p true are here room)) in
+    subst (λ (k : Keepings). AreKept version n i k (with_list i peer (keeps version frame (p.keeping i peer)) p).keeping)
+    (ap (list_set kept peer) (sym list) ∙ sym is) (one_list version n i peer (keeps version frame (p.keeping i peer)) kept p are here)
+
+pub kept_full : (version : FrameVersion) (n i peer : ℕ) (frame : List ℕ) (kept now : Keepings) (p : Peers) → AreKept version n i kept p.keeping → peer < n
+    → now ≡ kept → IsOver kept.limit (bytes_in (kept_for kept.lists peer) + length frame)
+    → AreKept version n i now (with_list i peer (keeps version frame (p.keeping i peer)) p).keeping
+kept_full version n i peer frame kept now p are here is full =
+    let none = keeps_none version frame (p.keeping i peer) (same_room version n i peer (length frame) kept p false are here full) in
     record {
-      many = ap length is ∙ kept.many;
-      each = λ j within. ap (λ (ls : List (List Kept)). kept_for ls j) is ∙ (kept.each j within ∙ elim (cases_eq j peer) [
+      limit = ap (λ (k : Keepings). k.limit) is ∙ are.limit;
+      many = ap (λ (k : Keepings). length k.lists) is ∙ are.many;
+      each = λ j within. ap (λ (k : Keepings). kept_for k.lists j) is ∙ (are.each j within ∙ elim (cases_eq j peer) [
         | inl e ↦
-            ap (p.keeping i) e ∙ (sym none ∙ sym (ap (λ (b : Bool). if b then keeps frame (p.keeping i peer) else p.keeping i j) (ap (is_pair i peer i) e ∙ pair_same i peer)))
-        | inr other ↦ sym (ap (λ (b : Bool). if b then keeps frame (p.keeping i peer) else p.keeping i j) (pair_other i peer j other))
+            ap (p.keeping i) e
+            ∙ (sym none ∙ sym (ap (λ (b : Bool). if b then keeps version frame (p.keeping i peer) else p.keeping i j) (ap (is_pair i peer i) e ∙ pair_same i peer)))
+        | inr other ↦ sym (ap (λ (b : Bool). if b then keeps version frame (p.keeping i peer) else p.keeping i j) (pair_other i peer j other))
       ]);
     }
 
+-- what is no peer is passed over
+pub kept_none : (version : FrameVersion) (n i peer : ℕ) (list : List Kept) (kept : Keepings) (p : Peers) → AreKept version n i kept p.keeping → n ≤ peer
+    → AreKept version n i kept (with_list i peer list p).keeping
+kept_none version n i peer list kept p are past = record {
+  limit = are.limit;
+  many = are.many;
+  each = λ j within. are.each j within ∙ sym (ap (λ (b : Bool). if b then list else p.keeping i j) (pair_other i peer j (λ e. omega (arith, within, past, e))));
+}
+
 -- ---- several frames
 
-keep_last : (fs : List MadeFrame) (f : MadeFrame) (p : Peers) → keep_all (fs ++ f ∷ []) p ≡ keep_one f (keep_all fs p)
-keep_last [] f p = refl
-keep_last (g ∷ fs) f p = keep_last fs f (keep_one g p)
+keep_last : (version : FrameVersion) (fs : List MadeFrame) (f : MadeFrame) (p : Peers) → keep_all version (fs ++ f ∷ []) p ≡ keep_one version f (keep_all version fs p)
+keep_last version [] f p = refl
+keep_last version (g ∷ fs) f p = keep_last version fs f (keep_one version g p)
 
 -- the next one is kept
-pub keep_next : (event at : ℕ) (xs : List OutFrame) (i : ℕ) (x : OutFrame) (p : Peers) → i < length xs → x ≡ get_or xs i x
-    → keep_all (map (made_as event at) (take (i + 1) xs)) p ≡ keep_one (made_as event at x) (keep_all (map (made_as event at) (take i xs)) p)
-keep_next event at xs i x p lt is =
-    ap (λ (l : List MadeFrame). keep_all l p) (map_more (made_as event at) xs i x lt
+pub keep_next : (version : FrameVersion) (event at : ℕ) (xs : List OutFrame) (i : ℕ) (x : OutFrame) (p : Peers) → i < length xs → x ≡ get_or xs i x
+    → keep_all version (map (made_as event at) (take (i + 1) xs)) p ≡ keep_one version (made_as event at x) (keep_all version (map (made_as event at) (take i xs)) p)
+keep_next version event at xs i x p lt is =
+    ap (λ (l : List MadeFrame). keep_all version l p) (map_more (made_as event at) xs i x lt
     ∙ ap (λ (y : OutFrame). map (made_as event at) (take i xs) ++ made_as event at y ∷ []) (sym is))
-    ∙ keep_last (map (made_as event at) (take i xs)) (made_as event at x) p
+    ∙ keep_last version (map (made_as event at) (take i xs)) (made_as event at x) p

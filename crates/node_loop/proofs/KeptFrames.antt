@@ -1,100 +1,28 @@
 -- The frames of a call are kept for their peers, and the house stands so.
-use Rattle.std.proofs.Common.{◌≡◌, ℕ, ◌≤◌, ◌+◌, ◌%◌, ◌^◌, ◌==◌, ◌&&◌, Bool, List, [], ◌∷◌, ◌++◌, length, map, Option, Some, None, Result, Ok, Err, refl, sym, ◌∙◌, ap, subst, arith, inl, inr, slice_set, if◌then◌else◌}
-use Rattle.std.specs.List.{All, AllByRecursion, slice_get}
+use Rattle.std.proofs.Common.{◌≡◌, ℕ, ◌==◌, ◌&&◌, Bool, List, [], ◌∷◌, map, Option, Some, None, refl, sym, ◌∙◌, ap, subst, inl, inr, slice_set, if◌then◌else◌}
+use Rattle.std.specs.List.{slice_get}
 use Rattle.std.proofs.Math.ListN.{length-set}
 use Rattle.std.proofs.lemmas.Bool.{cases_Bool, eqb-true}
 use Rattle.std.proofs.lemmas.Bool.Decides.{eqb_tells}
-use Rattle.std.proofs.lemmas.List.Elements.{All-from_recursion}
 use Rattle.std.proofs.lemmas.Option.{same_Some}
 use Rattle.std.specs.Vec.{with_item}
 use Rattle.ritas_base.specs.declared.event.Event.{Event}
-use Rattle.ritas_base.specs.declared.item.Item.{Item}
-use Rattle.ritas_base.specs.declared.item.Msg.{Msg}
-use Rattle.frame_codec.specs.declared.fault.BodyFault.{BodyFault}
-use Rattle.frame_codec.specs.Body.{body_answer}
-use Rattle.keyed_channel.specs.Lengths.{head_length}
+use Rattle.ritas_base.specs.declared.mode.FrameVersion.{FrameVersion}
 use Rattle.keyed_channel.specs.KeyRow.{KeyRow}
-use Rattle.keyed_channel.specs.Frames.{Opening, opening}
-use Rattle.keyed_channel.specs.Laws.{SealedLength}
-use Rattle.keyed_channel.specs.declared.frame.OpenFault.{OpenFault}
-use Rattle.ritas_core.specs.Order.{sent_to}
-use Rattle.ritas_core.specs.Rules.{Rules}
-use Rattle.ritas_core.specs.Machine.{CoreState}
 use Rattle.ritas_core.specs.Stands.{Meaning}
 use Rattle.replica.specs.Out.{OutFrame}
-use Rattle.replica.specs.Frames.{body_of, frame_for, receivers, frames_of}
-use Rattle.replica.specs.Handling.{ReplicaCall, Frame, Input, Turn, handled, given_body, given_frame}
 use Rattle.outside.specs.Links.{LinkAct, Sends}
-use Rattle.world_model.specs.World.{Setting, CallAt, call_of, handled_at, states_before}
-use Rattle.world_model.specs.MadeOrder.{MadeFrame, frames_of_call}
+use Rattle.world_model.specs.World.{Setting}
+use Rattle.world_model.specs.MadeOrder.{MadeFrame}
 use Rattle.world_model.proofs.Left.{get_set_same, get_set_other}
 use Rattle.node_loop.specs.declared.house.House.{House}
 use Rattle.node_loop.specs.declared.peers.Keeper.{Keeper}
 use Rattle.node_loop.specs.Waiting.{Waiting}
 use Rattle.link_resume.specs.declared.kept.Kept.{Kept}
 use Rattle.node_loop.specs.Peers.{Peers, with_list, keeps, keep_one, keep_all}
-use Rattle.node_loop.specs.PeersStanding.{AreKept, AreMarked, IsKeeper, made_as}
+use Rattle.node_loop.specs.PeersStanding.{AreKept, AreMarked, ArePending, IsKeeper, made_as}
 use Rattle.node_loop.specs.Serving.{as_sent, frames_made_by, sent_by, onto}
 use Rattle.node_loop.specs.Standing.{HouseStands, frame_by}
-
--- ---- frames are long enough for a number
-
-abbrev AreLong : List OutFrame → Type 0
-AreLong frames = AllByRecursion (λ f. head_length ≤ length f.bytes) frames
-
-both_long : (fs gs : List OutFrame) → AreLong fs → AreLong gs → AreLong (fs ++ gs)
-both_long [] gs first second = second
-both_long (f ∷ fs) gs first second = (first.0, both_long fs gs first.1 second)
-
-each_long : SealedLength → (k : KeyRow) (counts : ℕ → ℕ) (m : Msg) (js : List ℕ) → AreLong (map (λ j. frame_for k j (counts j) m) js)
-each_long law k counts m [] = tt
-each_long law k counts m (j ∷ js) =
-    let size = law k j (counts j % 2 ^ 64) (body_of k.me m) in
-    (omega (arith, size), each_long law k counts m js)
-
-all_long : SealedLength → (k : KeyRow) (counts : ℕ → ℕ) (ms : List Msg) → AreLong (frames_of k counts ms)
-all_long law k counts [] = tt
-all_long law k counts (m ∷ ms) =
-    both_long (map (λ j. frame_for k j (counts j) m) (receivers k m)) _ (each_long law k counts m (receivers k m)) (all_long law k (λ j. counts j + length (sent_to j (m ∷ []))) ms)
-
-body_long : SealedLength → (r : Rules) (k : KeyRow) (st : CoreState) (body : Result Item BodyFault) → AreLong (given_body r k st body).out
-body_long law r k st (Ok item) = all_long law k _ _
-body_long law r k st (Err fault) = tt
-
-frame_long : SealedLength → (r : Rules) (k : KeyRow) (st : CoreState) (o : Result Opening OpenFault) → AreLong (given_frame r k st o).out
-frame_long law r k st (Ok o) = body_long law r k st (body_answer r.casts.numbers r.mode o.from o.body)
-frame_long law r k st (Err fault) = tt
-
-out_long : SealedLength → (r : Rules) (k : KeyRow) (st : CoreState) (call : ReplicaCall) → AreLong (handled r k st call).out
-out_long law r k st (Frame bytes) = frame_long law r k st (opening k bytes)
-out_long law r k st (Input bytes) = all_long law k _ _
-out_long law r k st Turn = all_long law k _ _
-
-abbrev IsLong : LinkAct → Type 0
-IsLong (Sends s) = head_length ≤ length s.bytes
-IsLong other = Unit {0}
-
-sent_long : (k at : ℕ) (frames : List OutFrame) → AreLong frames → AllByRecursion IsLong (map as_sent (map (λ o. record { event = k; from = at; to = o.to; bytes = o.bytes }) frames))
-sent_long k at [] long = tt
-sent_long k at (f ∷ fs) long = (long.0, sent_long k at fs long.1)
-
-call_long : SealedLength → (k : ℕ) (w : Setting) (states : ℕ → CoreState) (c : Option CallAt) → AllByRecursion IsLong (map as_sent (frames_of_call k w states c))
-call_long law k w states None = tt
-call_long law k w states (Some c) = sent_long k c.at (handled_at w states c).out (out_long law _ (w.keys c.at) (states c.at) c.call)
-
-made_long : SealedLength → (w : Setting) (es : List Event) (e : Option Event) → AllByRecursion IsLong (sent_by w es e)
-made_long law w es None = tt
-made_long law w es (Some e) = call_long law (length es) w (states_before w es) (call_of w (states_before w es) e)
-
-long_again : (at : ℕ) (frames : List OutFrame) → AllByRecursion IsLong (map (frame_by at) frames) → AreLong frames
-long_again at [] long = tt
-long_again at (f ∷ fs) long = (long.0, long_again at fs long.1)
-
--- each frame of a call has a number
-pub have_numbers : SealedLength → (w : Setting) (es : List Event) (e : Option Event) (at : ℕ) (frames : List OutFrame)
-    → map (frame_by at) frames ≡ sent_by w es e → All (λ f. head_length ≤ length f.bytes) frames
-have_numbers law w es e at frames is =
-    All-from_recursion (λ f. head_length ≤ length f.bytes) frames (long_again at frames (subst (λ (acts : List LinkAct). AllByRecursion IsLong acts) (sym is) (made_long law w es e)))
 
 -- ---- frames that are kept one after the other: with each, so much is kept for its peer in place of what was
 
@@ -105,9 +33,9 @@ abbrev pub put_all : Put → List MadeFrame → Peers → Peers
 put_all put [] p = p
 put_all put (f ∷ fs) p = put_all put fs (with_list f.from f.to (put f.bytes (p.keeping f.from f.to)) p)
 
-pub all_put : (fs : List MadeFrame) (p : Peers) → put_all keeps fs p ≡ keep_all fs p
-all_put [] p = refl
-all_put (f ∷ fs) p = all_put fs (keep_one f p)
+pub all_put : (version : FrameVersion) (fs : List MadeFrame) (p : Peers) → put_all (keeps version) fs p ≡ keep_all version fs p
+all_put version [] p = refl
+all_put version (f ∷ fs) p = all_put version fs (keep_one version f p)
 
 -- what is kept doesn't depend on the event
 abbrev put_act : Put → LinkAct → Peers → Peers
@@ -138,6 +66,7 @@ same_put put w es e k at frames p is =
 pub record OnlyKeeps (at : ℕ) (p q : Peers) : Type 0 where
   pub others : (i j : ℕ) → (i ≡ at → ⊥) → q.keeping i j ≡ p.keeping i j
   pub marks : q.marks ≡ p.marks
+  pub pending : q.pending ≡ p.pending
 
 other_pair : (at to i j : ℕ) (p : Peers) (list : List _) → (i ≡ at → ⊥) → (with_list at to list p).keeping i j ≡ p.keeping i j
 other_pair at to i j p list other = elim (cases_Bool (i == at)) [
@@ -146,33 +75,49 @@ other_pair at to i j p list other = elim (cases_Bool (i == at)) [
 ]
 
 pub only_put : (put : Put) (k at : ℕ) (frames : List OutFrame) (p : Peers) → OnlyKeeps at p (put_all put (map (made_as k at) frames) p)
-only_put put k at [] p = record { others = λ i j other. refl; marks = refl }
+only_put put k at [] p = record { others = λ i j other. refl; marks = refl; pending = refl }
 only_put put k at (f ∷ fs) p =
     let list = put f.bytes (p.keeping at f.to) in
     let rest = only_put put k at fs (with_list at f.to list p) in
-    record { others = λ i j other. rest.others i j other ∙ other_pair at f.to i j p list other; marks = rest.marks }
+    record { others = λ i j other. rest.others i j other ∙ other_pair at f.to i j p list other; marks = rest.marks; pending = rest.pending }
 
-still_marked : (n at i : ℕ) (p q : Peers) (keeper : Keeper) → OnlyKeeps at p q → IsKeeper n i keeper p → AreMarked n i keeper.marks.items q.marks
-still_marked n at i p q keeper only is = record {
+still_marked : (version : FrameVersion) (n at i : ℕ) (p q : Peers) (keeper : Keeper) → OnlyKeeps at p q → IsKeeper version n i keeper p → AreMarked n i keeper.marks.items q.marks
+still_marked version n at i p q keeper only is = record {
   many = is.marked.many;
   each = λ j within. is.marked.each j within ∙ ap (λ (marks : ℕ → ℕ → _). marks i j) (sym only.marks);
 }
 
-other_keeper : (n at i : ℕ) (p q : Peers) (keeper : Keeper) → (i ≡ at → ⊥) → OnlyKeeps at p q → IsKeeper n i keeper p → IsKeeper n i keeper q
-other_keeper n at i p q keeper other only is = record {
-  kept = record { many = is.kept.many; each = λ j within. is.kept.each j within ∙ sym (only.others i j other) };
-  marked = still_marked n at i p q keeper only is;
+still_pending : (version : FrameVersion) (n at i : ℕ) (p q : Peers) (keeper : Keeper) → OnlyKeeps at p q → IsKeeper version n i keeper p
+    → ArePending n i keeper.pending.items q.pending
+still_pending version n at i p q keeper only is = record {
+  many = is.pending.many;
+  each = λ j within. is.pending.each j within ∙ ap (λ (pending : ℕ → ℕ → _). pending i j) (sym only.pending);
+}
+
+other_keeper : (version : FrameVersion) (n at i : ℕ) (p q : Peers) (keeper : Keeper) → (i ≡ at → ⊥) → OnlyKeeps at p q → IsKeeper version n i keeper p → IsKeeper version n i keeper q
+other_keeper version n at i p q keeper other only is = record {
+  version_is = is.version_is;
+  kept = record { limit = is.kept.limit; many = is.kept.many; each = λ j within. is.kept.each j within ∙ sym (only.others i j other) };
+  marked = still_marked version n at i p q keeper only is;
+  pending = still_pending version n at i p q keeper only is;
 }
 
 -- the house stands, where one keeper keeps so much in place of what it did
 pub house_with : {S E C : Type 0} (m : Meaning S E C KeyRow) (w : Setting) (es : List Event) (numbers : List ℕ) (house : House S E C) (ws : Waiting) (p q : Peers)
     (at place : ℕ) (old : Keeper) (lists : _)
     → HouseStands m w es numbers house ws p → slice_get numbers place ≡ Some at → slice_get house.keepers.items place ≡ Some old
-    → OnlyKeeps at p q → AreKept w.numbers.n at lists q.keeping
-    → HouseStands m w es numbers (record house { keepers = with_item house.keepers place (record { resume = lists; marks = old.marks }) }) ws q
+    → OnlyKeeps at p q → AreKept w.mode.version w.numbers.n at lists q.keeping
+    → HouseStands m w es numbers (record house { keepers = with_item house.keepers place (record old { resume = lists }) }) ws q
 house_with m w es numbers house ws p q at place old lists stands number there only kept =
-    let new : Keeper = record { resume = lists; marks = old.marks } in
-    let is : IsKeeper w.numbers.n at new q = record { kept = kept; marked = still_marked w.numbers.n at at p q old only (stands.keepers place at old number there) } in
+    let new : Keeper = record old { resume = lists } in
+    let v = w.mode.version in
+    let was = stands.keepers place at old number there in
+    let is : IsKeeper v w.numbers.n at new q = record {
+      version_is = was.version_is;
+      kept = kept;
+      marked = still_marked v w.numbers.n at at p q old only was;
+      pending = still_pending v w.numbers.n at at p q old only was;
+    } in
     record {
       here = stands.here;
       waiting = stands.waiting;
@@ -181,9 +126,9 @@ house_with m w es numbers house ws p q at place old lists stands number there on
         | inl same ↦
             let one : at ≡ i = same_Some at i (sym number ∙ ap (slice_get numbers) same.1 ∙ numbered) in
             let is_new : new ≡ keeper = same_Some new keeper (sym (get_set_same house.keepers.items place old new there) ∙ ap (slice_get (slice_set house.keepers.items place new)) same.1 ∙ seen) in
-            subst (λ (x : Keeper). IsKeeper w.numbers.n i x q) is_new (subst (λ (x : ℕ). IsKeeper w.numbers.n x new q) one is)
+            subst (λ (x : Keeper). IsKeeper w.mode.version w.numbers.n i x q) is_new (subst (λ (x : ℕ). IsKeeper w.mode.version w.numbers.n x new q) one is)
         | inr other ↦
-            other_keeper w.numbers.n at i p q keeper (λ one. other.1 (stands.here.apart place o i (number ∙ ap (λ x. Some x) (sym one)) numbered)) only
+            other_keeper w.mode.version w.numbers.n at i p q keeper (λ one. other.1 (stands.here.apart place o i (number ∙ ap (λ x. Some x) (sym one)) numbered)) only
             (stands.keepers o i keeper numbered (sym (get_set_other house.keepers.items place o new (λ h. other.1 (sym h))) ∙ seen))
       ];
     }
@@ -192,30 +137,30 @@ house_with m w es numbers house ws p q at place old lists stands number there on
 pub house_put : {S E C : Type 0} (put : Put) (m : Meaning S E C KeyRow) (w : Setting) (es : List Event) (numbers : List ℕ) (house : House S E C) (ws : Waiting) (p q r : Peers)
     (k at place : ℕ) (frames : List OutFrame) (old : Keeper) (lists : _)
     → HouseStands m w es numbers house ws p → slice_get numbers place ≡ Some at → slice_get house.keepers.items place ≡ Some old
-    → put_all put (map (made_as k at) frames) p ≡ r → r ≡ q → AreKept w.numbers.n at lists r.keeping
-    → HouseStands m w es numbers (record house { keepers = with_item house.keepers place (record { resume = lists; marks = old.marks }) }) ws q
+    → put_all put (map (made_as k at) frames) p ≡ r → r ≡ q → AreKept w.mode.version w.numbers.n at lists r.keeping
+    → HouseStands m w es numbers (record house { keepers = with_item house.keepers place (record old { resume = lists }) }) ws q
 house_put put m w es numbers house ws p q r k at place frames old lists stands number there is same kept =
     house_with m w es numbers house ws p q at place old lists stands number there
     (subst (λ (x : Peers). OnlyKeeps at p x) (is ∙ same) (only_put put k at frames p))
-    (subst (λ (x : Peers). AreKept w.numbers.n at lists x.keeping) same kept)
+    (subst (λ (x : Peers). AreKept w.mode.version w.numbers.n at lists x.keeping) same kept)
 
 -- ---- with each, what doesn't make it too many
 
 pub same_kept : (w : Setting) (es : List Event) (e : Option Event) (k at : ℕ) (frames : List OutFrame) (p : Peers) → map (frame_by at) frames ≡ sent_by w es e
-    → keep_all (map (made_as k at) frames) p ≡ keep_all (frames_made_by w es e) p
-same_kept w es e k at frames p is = sym (all_put (map (made_as k at) frames) p) ∙ (same_put keeps w es e k at frames p is ∙ all_put (frames_made_by w es e) p)
+    → keep_all w.mode.version (map (made_as k at) frames) p ≡ keep_all w.mode.version (frames_made_by w es e) p
+same_kept w es e k at frames p is = sym (all_put w.mode.version (map (made_as k at) frames) p) ∙ (same_put (keeps w.mode.version) w es e k at frames p is ∙ all_put w.mode.version (frames_made_by w es e) p)
 
 -- the house stands, where one keeper kept the frames of its replica
 pub house_kept : {S E C : Type 0} (m : Meaning S E C KeyRow) (w : Setting) (es : List Event) (numbers : List ℕ) (house : House S E C) (ws : Waiting) (p q : Peers)
     (k at place : ℕ) (frames : List OutFrame) (old : Keeper) (lists : _)
     → HouseStands m w es numbers house ws p → slice_get numbers place ≡ Some at → slice_get house.keepers.items place ≡ Some old
-    → keep_all (map (made_as k at) frames) p ≡ q → AreKept w.numbers.n at lists (keep_all (map (made_as k at) frames) p).keeping
-    → HouseStands m w es numbers (record house { keepers = with_item house.keepers place (record { resume = lists; marks = old.marks }) }) ws q
+    → keep_all w.mode.version (map (made_as k at) frames) p ≡ q → AreKept w.mode.version w.numbers.n at lists (keep_all w.mode.version (map (made_as k at) frames) p).keeping
+    → HouseStands m w es numbers (record house { keepers = with_item house.keepers place (record old { resume = lists }) }) ws q
 house_kept m w es numbers house ws p q k at place frames old lists stands number there same kept =
-    house_put keeps m w es numbers house ws p q (keep_all (map (made_as k at) frames) p) k at place frames old lists stands number there (all_put (map (made_as k at) frames) p) same kept
+    house_put (keeps w.mode.version) m w es numbers house ws p q (keep_all w.mode.version (map (made_as k at) frames) p) k at place frames old lists stands number there (all_put w.mode.version (map (made_as k at) frames) p) same kept
 
 -- where there was no call, all stands
 pub none_kept : {S E C : Type 0} (m : Meaning S E C KeyRow) (w : Setting) (es : List Event) (numbers : List ℕ) (house : House S E C) (ws : Waiting) (e : Option Event) (p q : Peers)
-    → e ≡ None → keep_all (frames_made_by w es e) p ≡ q → HouseStands m w (onto e es) numbers house ws p → HouseStands m w (onto e es) numbers house ws q
+    → e ≡ None → keep_all w.mode.version (frames_made_by w es e) p ≡ q → HouseStands m w (onto e es) numbers house ws p → HouseStands m w (onto e es) numbers house ws q
 none_kept m w es numbers house ws e p q none is stands =
-    subst (λ (r : Peers). HouseStands m w (onto e es) numbers house ws r) (sym (ap (λ (o : Option Event). keep_all (frames_made_by w es o) p) none) ∙ is) stands
+    subst (λ (r : Peers). HouseStands m w (onto e es) numbers house ws r) (sym (ap (λ (o : Option Event). keep_all w.mode.version (frames_made_by w es o) p) none) ∙ is) stands

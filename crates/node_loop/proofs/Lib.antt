@@ -30,6 +30,9 @@ pub mod Keepers
 pub mod Wishing
 pub mod Hearing
 pub mod KeptFrames
+pub mod Taking
+pub mod Batching
+pub mod Sending
 pub mod Grouping
 pub mod Gathering
 pub mod Delivering

@@ -1,11 +1,12 @@
 -- An event that a journal kept happens again.
-use Rattle.std.proofs.Common.{◌≡◌, ℕ, ◌+◌, ◌<◌, Bool, true, false, List, [], ◌∷◌, ◌++◌, length, map, reverse, take, Option, Some, None, refl, sym, ap, ◌∙◌, subst, get_or, slice_set, if◌then◌else◌}
+use Rattle.std.proofs.Common.{◌≡◌, ℕ, ◌+◌, ◌<◌, Bool, true, false, List, [], ◌∷◌, ◌++◌, length, map, reverse, take, Option, Some, None, refl, sym, ap, ap₂, ◌∙◌, subst, get_or, if◌then◌else◌}
 use Rattle.std.proofs.lemmas.List.{map_more, take_more, reverse-append}
 use Rattle.ritas_base.specs.declared.event.Event.{Event}
 use Rattle.ritas_base.specs.declared.event.Event.TheVariants as events
 use Rattle.keyed_channel.specs.KeyRow.{KeyRow}
 use Rattle.link_resume.specs.declared.kept.Kept.{Kept}
-use Rattle.link_resume.specs.Lists.{room_for, with_room}
+use Rattle.ritas_base.specs.declared.mode.FrameVersion.{FrameVersion}
+use Rattle.link_resume.specs.Lists.{Keepings, most_kept, room_for, with_room, with_list as list_set}
 use Rattle.replica.specs.Out.{OutFrame}
 use Rattle.ritas_core.specs.Stands.{Meaning}
 use Rattle.schedule_file.specs.Spelling.{IsAlone}
@@ -82,48 +83,51 @@ happened m w es numbers house e at out count seen ws p alone out_is count_is see
 
 -- ---- with each frame the oldest make room
 
-abbrev pub newest : Put
-newest frame kept = keeps frame (room_for (length frame) kept)
+abbrev pub newest : FrameVersion → Put
+newest version frame kept = keeps version frame (room_for (most_kept version) (length frame) kept)
 
-pub all_put_newest : (fs : List MadeFrame) (p : Peers) → put_all newest fs p ≡ all_newest fs p
-all_put_newest [] p = refl
-all_put_newest (f ∷ fs) p = all_put_newest fs (keep_newest f p)
+pub all_put_newest : (version : FrameVersion) (fs : List MadeFrame) (p : Peers) → put_all (newest version) fs p ≡ all_newest version fs p
+all_put_newest version [] p = refl
+all_put_newest version (f ∷ fs) p = all_put_newest version fs (keep_newest version f p)
 
 pub same_newest : (w : Setting) (es : List Event) (e : Option Event) (k at : ℕ) (frames : List OutFrame) (p : Peers) → map (frame_by at) frames ≡ sent_by w es e
-    → all_newest (map (made_as k at) frames) p ≡ all_newest (frames_made_by w es e) p
-same_newest w es e k at frames p is = sym (all_put_newest (map (made_as k at) frames) p) ∙ (same_put newest w es e k at frames p is ∙ all_put_newest (frames_made_by w es e) p)
+    → all_newest w.mode.version (map (made_as k at) frames) p ≡ all_newest w.mode.version (frames_made_by w es e) p
+same_newest w es e k at frames p is =
+    let v = w.mode.version in
+    sym (all_put_newest v (map (made_as k at) frames) p) ∙ (same_put (newest v) w es e k at frames p is ∙ all_put_newest v (frames_made_by w es e) p)
 
-newest_last : (fs : List MadeFrame) (f : MadeFrame) (p : Peers) → all_newest (fs ++ f ∷ []) p ≡ keep_newest f (all_newest fs p)
-newest_last [] f p = refl
-newest_last (g ∷ fs) f p = newest_last fs f (keep_newest g p)
+newest_last : (version : FrameVersion) (fs : List MadeFrame) (f : MadeFrame) (p : Peers) → all_newest version (fs ++ f ∷ []) p ≡ keep_newest version f (all_newest version fs p)
+newest_last version [] f p = refl
+newest_last version (g ∷ fs) f p = newest_last version fs f (keep_newest version g p)
 
 -- the next one is kept
-pub newest_next : (event at : ℕ) (xs : List OutFrame) (i : ℕ) (x : OutFrame) (p : Peers) → i < length xs → x ≡ get_or xs i x
-    → all_newest (map (made_as event at) (take (i + 1) xs)) p ≡ keep_newest (made_as event at x) (all_newest (map (made_as event at) (take i xs)) p)
-newest_next event at xs i x p lt is =
-    ap (λ (l : List MadeFrame). all_newest l p) (map_more (made_as event at) xs i x lt
+pub newest_next : (version : FrameVersion) (event at : ℕ) (xs : List OutFrame) (i : ℕ) (x : OutFrame) (p : Peers) → i < length xs → x ≡ get_or xs i x
+    → all_newest version (map (made_as event at) (take (i + 1) xs)) p ≡ keep_newest version (made_as event at x) (all_newest version (map (made_as event at) (take i xs)) p)
+newest_next version event at xs i x p lt is =
+    ap (λ (l : List MadeFrame). all_newest version l p) (map_more (made_as event at) xs i x lt
     ∙ ap (λ (y : OutFrame). map (made_as event at) (take i xs) ++ made_as event at y ∷ []) (sym is))
-    ∙ newest_last (map (made_as event at) (take i xs)) (made_as event at x) p
+    ∙ newest_last version (map (made_as event at) (take i xs)) (made_as event at x) p
 
 -- room was made for a peer
-pub room_made : (n i peer size : ℕ) (lists now : List (List Kept)) (p : Peers) → AreKept n i lists p.keeping → peer < n
-    → now ≡ with_room lists peer size → AreKept n i now (with_list i peer (room_for size (p.keeping i peer)) p).keeping
-room_made n i peer size lists now p kept here is =
-    subst (λ (ls : List (List Kept)). AreKept n i ls (with_list i peer (room_for size (p.keeping i peer)) p).keeping)
-    (ap (λ (ks : List Kept). slice_set lists peer (room_for size ks)) (sym (kept.each peer here)) ∙ sym is)
-    (one_list n i peer (room_for size (p.keeping i peer)) lists p kept here)
+pub room_made : (version : FrameVersion) (n i peer size : ℕ) (kept now : Keepings) (p : Peers) → AreKept version n i kept p.keeping → peer < n
+    → now ≡ with_room kept peer size → AreKept version n i now (with_list i peer (room_for (most_kept version) size (p.keeping i peer)) p).keeping
+room_made version n i peer size kept now p are here is =
+    subst (λ (k : Keepings). AreKept version n i k (with_list i peer (room_for (most_kept version) size (p.keeping i peer)) p).keeping)
+    (ap₂ (λ (limit : Option ℕ) (ks : List Kept). list_set kept peer (room_for limit size ks)) (sym are.limit) (sym (are.each peer here)) ∙ sym is)
+    (one_list version n i peer (room_for (most_kept version) size (p.keeping i peer)) kept p are here)
 
 twice : (b : Bool) (x y z : List Kept) → (if b then x else (if b then y else z)) ≡ (if b then x else z)
 twice true x y z = refl
 twice false x y z = refl
 
 -- and a frame was kept in it
-pub kept_in_room : (n i peer : ℕ) (frame : List ℕ) (room : List Kept) (lists : List (List Kept)) (p : Peers)
-    → AreKept n i lists (with_list i peer (keeps frame ((with_list i peer room p).keeping i peer)) (with_list i peer room p)).keeping
-    → AreKept n i lists (with_list i peer (keeps frame room) p).keeping
-kept_in_room n i peer frame room lists p kept = record {
-  many = kept.many;
-  each = λ j within. kept.each j within
-      ∙ (ap (λ (b : Bool). if is_pair i peer i j then keeps frame (if b then room else p.keeping i peer) else (if is_pair i peer i j then room else p.keeping i j)) (pair_same i peer)
-      ∙ twice (is_pair i peer i j) (keeps frame room) room (p.keeping i j));
+pub kept_in_room : (version : FrameVersion) (n i peer : ℕ) (frame : List ℕ) (room : List Kept) (kept : Keepings) (p : Peers)
+    → AreKept version n i kept (with_list i peer (keeps version frame ((with_list i peer room p).keeping i peer)) (with_list i peer room p)).keeping
+    → AreKept version n i kept (with_list i peer (keeps version frame room) p).keeping
+kept_in_room version n i peer frame room kept p are = record {
+  limit = are.limit;
+  many = are.many;
+  each = λ j within. are.each j within
+      ∙ (ap (λ (b : Bool). if is_pair i peer i j then keeps version frame (if b then room else p.keeping i peer) else (if is_pair i peer i j then room else p.keeping i j)) (pair_same i peer)
+      ∙ twice (is_pair i peer i j) (keeps version frame room) room (p.keeping i j));
 }

@@ -6,6 +6,8 @@ use Rattle.std.proofs.lemmas.Bool.{cases_Bool, eqb-true, eq-eqb}
 use Rattle.std.proofs.lemmas.List.{append-nil}
 use Rattle.std.proofs.lemmas.Slice.Eq.{bytes_eq-Decides}
 use Rattle.ritas_base.specs.declared.event.Event.{Event}
+use Rattle.ritas_base.specs.declared.mode.FrameVersion.{FrameVersion}
+use Rattle.ritas_base.specs.declared.mode.FrameVersion.TheVariants.{One, Two, Three}
 use Rattle.ritas_base.specs.declared.event.Event.TheVariants as events
 use Rattle.outside.specs.declared.link.LinkItem.{LinkItem}
 use Rattle.outside.specs.declared.link.LinkItem.TheVariants as items
@@ -16,15 +18,19 @@ use Rattle.keyed_channel.specs.declared.frame.OpenFault.{OpenFault}
 use Rattle.keyed_channel.specs.declared.note.Note.{Note}
 use Rattle.keyed_channel.specs.declared.note.Note.TheVariants as notes
 use Rattle.link_resume.specs.declared.kept.Kept.{Kept}
-use Rattle.link_resume.specs.Lists.{bytes_in, most_kept_bytes, all_but, room_for}
+use Rattle.link_resume.specs.Lists.{bytes_in, most_kept, may_have, all_but, room_within, room_for}
 use Rattle.world_model.specs.World.{Setting, seen_of}
 use Rattle.world_model.specs.MadeOrder.{MadeFrame, all_made}
 use Rattle.node_loop.specs.Waiting.{Waiting}
 use Rattle.node_loop.specs.Calls.{Outcome, event_called, silent, item_does, first_does}
 use Rattle.node_loop.specs.declared.peers.Mark.{Mark}
-use Rattle.node_loop.specs.Peers.{Peers, is_pair, with_list, with_mark, keeps, keep_one, keep_all, acknowledged}
+use Rattle.node_loop.specs.Peers.{Peers, is_pair, with_list, with_mark, with_pending, keeps, keep_one, keep_all, acknowledged}
 use Rattle.node_loop.specs.Deeds.{Deed, Came, Made, Resent, Acked, Wished, Replied, pushed, is_resent, has_resent, says_so, acks, is_first, is_connected}
-use Rattle.node_loop.specs.Resending.{Brought, nothing_more, mark_at, is_deferred, opened_so, resends, noted_so}
+use Rattle.node_loop.specs.declared.output.Part.{Part}
+use Rattle.node_loop.specs.declared.output.Part.TheVariants as parts_are
+use Rattle.node_loop.specs.declared.peers.Pending.{Pending}
+use Rattle.node_loop.specs.Resending.{Brought, nothing_more, mark_at, is_deferred, opened_so, part_of, resends, front_of, sends_batch, goes_on, acked_so, connected, noted_so}
+use Rattle.node_loop.proofs.Batching.{part_all}
 use Rattle.node_loop.specs.Serving.{Serving, so_far, Round, Began, Turned, Reminded, Took, frames_made_by, brought, outcome, after_from}
 use Rattle.node_loop.specs.Told.{AreJoined, AreGroups, after_groups, came_in, with_deeds, newest_deeds, deeds_from}
 use Rattle.node_loop.specs.Recovering.{keep_newest, all_newest, recalled_peers, recalled_deeds}
@@ -90,8 +96,8 @@ first_itself f =
     (ap₂ (λ (x y : Bool). x && y) (eq-eqb f.to f.to refl) ((bytes_eq-Decides f.bytes f.bytes).1 refl))
 
 keeps_sent : (w : Setting) (f : MadeFrame) (ds : List Deed) (ks : List Kept) → AllByRecursion (IsUnacknowledged w f.from f.to ds) ks
-    → AllByRecursion (IsUnacknowledged w f.from f.to (Made f ∷ ds)) (keeps f.bytes ks)
-keeps_sent w f ds ks all = by_room (nat_le (bytes_in ks + length f.bytes) most_kept_bytes)
+    → AllByRecursion (IsUnacknowledged w f.from f.to (Made f ∷ ds)) (keeps w.mode.version f.bytes ks)
+keeps_sent w f ds ks all = by_room (may_have (most_kept w.mode.version) (bytes_in ks + length f.bytes))
   where
     by_room : (b : Bool) → AllByRecursion (IsUnacknowledged w f.from f.to (Made f ∷ ds)) (if b then ks ++ record { seq = seq_of f.bytes; frame = f.bytes } ∷ [] else ks)
     by_room true =
@@ -99,16 +105,16 @@ keeps_sent w f ds ks all = by_room (nat_le (bytes_in ks + length f.bytes) most_k
         (refl, or_left (is_first f f.from f.to f.bytes) (is_connected w f.from f.to f.bytes ds) (first_itself f))
     by_room false = made_stays w f f.from f.to ds ks all
 
-one_made : (w : Setting) (f : MadeFrame) (p : Peers) (ds : List Deed) → Good w p ds → Good w (keep_one f p) (Made f ∷ ds)
+one_made : (w : Setting) (f : MadeFrame) (p : Peers) (ds : List Deed) → Good w p ds → Good w (keep_one w.mode.version f p) (Made f ∷ ds)
 one_made w f p ds good = record {
-  sent = one_list w f.from f.to (keeps f.bytes (p.keeping f.from f.to)) p (Made f ∷ ds) (keeps_sent w f ds (p.keeping f.from f.to) (good.sent.each f.from f.to))
+  sent = one_list w f.from f.to (keeps w.mode.version f.bytes (p.keeping f.from f.to)) p (Made f ∷ ds) (keeps_sent w f ds (p.keeping f.from f.to) (good.sent.each f.from f.to))
       (λ a b _. made_stays w f a b ds (p.keeping a b) (good.sent.each a b));
   again = good.again;
 }
 
-pub all_made_good : (w : Setting) (fs : List MadeFrame) (p : Peers) (ds : List Deed) → Good w p ds → Good w (keep_all fs p) (pushed (map Made fs) ds)
+pub all_made_good : (w : Setting) (fs : List MadeFrame) (p : Peers) (ds : List Deed) → Good w p ds → Good w (keep_all w.mode.version fs p) (pushed (map Made fs) ds)
 all_made_good w [] p ds good = good
-all_made_good w (f ∷ fs) p ds good = all_made_good w fs (keep_one f p) (Made f ∷ ds) (one_made w f p ds good)
+all_made_good w (f ∷ fs) p ds good = all_made_good w fs (keep_one w.mode.version f p) (Made f ∷ ds) (one_made w f p ds good)
 
 -- ---- frames that go out again, and what changes nothing
 
@@ -121,8 +127,17 @@ resent_good w i j p [] ds all good = good
 resent_good w i j p (k ∷ ks) ds all good =
     resent_good w i j p ks (Resent i j k.frame ∷ ds) all.1 (record { sent = again_sent w i j p k.frame ds good.sent; again = (all.0.1, good.again) })
 
-resends_good : (w : Setting) (i j : ℕ) (p : Peers) (ds : List Deed) → Good w p ds → Good w (resends i j p).peers (pushed (resends i j p).deeds ds)
-resends_good w i j p ds good = resent_good w i j p (p.keeping i j) ds (good.sent.each i j) good
+resends_good : (w : Setting) (i j : ℕ) (part : Part) (p : Peers) (ds : List Deed) → Good w p ds → Good w p (pushed (resends i j part p).deeds ds)
+resends_good w i j part p ds good =
+    resent_good w i j p (part_of part (p.keeping i j)) ds (part_all (IsUnacknowledged w i j ds) part (p.keeping i j) (good.sent.each i j)) good
+
+-- how far it went
+pending_good : (w : Setting) (i j : ℕ) (pending : Option Pending) (p : Peers) (ds : List Deed) → Good w p ds → Good w (with_pending i j pending p) ds
+pending_good w i j pending p ds good = record { sent = record { each = good.sent.each }; again = good.again }
+
+batch_good : (w : Setting) (i j : ℕ) (after : Option ℕ) (end : ℕ) (p : Peers) (ds : List Deed) → Good w p ds
+    → Good w (sends_batch i j after end p).peers (pushed (sends_batch i j after end p).deeds ds)
+batch_good w i j after end p ds good = resends_good w i j (parts_are.Batch after end) _ ds (pending_good w i j _ p ds good)
 
 replied_good : (w : Setting) (rs : List Sent) (p : Peers) (ds : List Deed) → Good w p ds → Good w p (pushed (map Replied rs) ds)
 replied_good w [] p ds good = good
@@ -224,22 +239,43 @@ acks_frame w to bytes i j seq h =
     and_false (w.is_correct to) (to == i && (is_note bytes && says_so (noted (w.keys to) bytes) j seq))
     (and_false (to == i) (is_note bytes && says_so (noted (w.keys to) bytes) j seq) (ap (λ (b : Bool). b && says_so (noted (w.keys to) bytes) j seq) h))
 
--- what a note leaves
-note_good : (w : Setting) (to : ℕ) (bytes : List ℕ) (p : Peers) (ds : List Deed) (said : Option Note) → w.is_correct to ≡ true → is_note bytes ≡ true
-    → noted (w.keys to) bytes ≡ said → Good w p ds → Good w (noted_so to p said).peers (pushed (noted_so to p said).deeds (Came false (items.Frame to bytes) ∷ ds))
-note_good w to bytes p ds None here note is good =
-    came_good w (items.Frame to bytes) p ds (λ i j seq. acks_none w to bytes i j seq (ap (λ (o : Option Note). says_so o j seq) is)) good
-note_good w to bytes p ds (Some (notes.Ack from number)) here note is good =
-    ack_good w to from number bytes p ds (acks_is w to from number bytes here note is) good
-note_good w to bytes p ds (Some (notes.Again from)) here note is good =
-    resends_good w to from p (Came false (items.Frame to bytes) ∷ ds)
-    (came_good w (items.Frame to bytes) p ds (λ i j seq. acks_none w to bytes i j seq (ap (λ (o : Option Note). says_so o j seq) is)) good)
-
 -- whichever of two comes
 either_good : (w : Setting) (x y : Brought) (ds : List Deed) (b : Bool) → Good w x.peers (pushed x.deeds ds) → Good w y.peers (pushed y.deeds ds)
     → Good w (if b then x else y).peers (pushed (if b then x else y).deeds ds)
 either_good w x y ds true first second = first
 either_good w x y ds false first second = second
+
+-- an acknowledgement of the last of a batch, and any other
+goes_on_good : (w : Setting) (i j seq : ℕ) (pending : Option Pending) (p : Peers) (ds : List Deed) → Good w p ds
+    → Good w (goes_on i j seq pending p).peers (pushed (goes_on i j seq pending p).deeds ds)
+goes_on_good w i j seq None p ds good = good
+goes_on_good w i j seq (Some pending) p ds good =
+    either_good w (sends_batch i j (Some seq) pending.end p) (nothing_more p) ds (pending.last == seq) (batch_good w i j (Some seq) pending.end p ds good) good
+
+acked_so_good : (w : Setting) (version : FrameVersion) (i j seq : ℕ) (p : Peers) (ds : List Deed) → Good w (acknowledged i j seq p) ds
+    → Good w (acked_so version i j seq p).peers (pushed (acked_so version i j seq p).deeds ds)
+acked_so_good w One i j seq p ds good = good
+acked_so_good w Two i j seq p ds good = good
+acked_so_good w Three i j seq p ds good = goes_on_good w i j seq (p.pending i j) (acknowledged i j seq p) ds good
+
+-- a connection
+connected_good : (w : Setting) (version : FrameVersion) (i j : ℕ) (p : Peers) (ds : List Deed) → Good w p ds
+    → Good w (connected version i j p).peers (pushed (connected version i j p).deeds ds)
+connected_good w One i j p ds good = resends_good w i j parts_are.All p ds good
+connected_good w Two i j p ds good = resends_good w i j parts_are.All p ds good
+connected_good w Three i j p ds good = batch_good w i j None _ p ds good
+
+-- what a note leaves
+note_good : (w : Setting) (version : FrameVersion) (to : ℕ) (bytes : List ℕ) (p : Peers) (ds : List Deed) (said : Option Note) → w.is_correct to ≡ true → is_note bytes ≡ true
+    → noted (w.keys to) bytes ≡ said → Good w p ds
+    → Good w (noted_so version to p said).peers (pushed (noted_so version to p said).deeds (Came false (items.Frame to bytes) ∷ ds))
+note_good w version to bytes p ds None here note is good =
+    came_good w (items.Frame to bytes) p ds (λ i j seq. acks_none w to bytes i j seq (ap (λ (o : Option Note). says_so o j seq) is)) good
+note_good w version to bytes p ds (Some (notes.Ack from number)) here note is good =
+    acked_so_good w version to from number p (Came false (items.Frame to bytes) ∷ ds) (ack_good w to from number bytes p ds (acks_is w to from number bytes here note is) good)
+note_good w version to bytes p ds (Some (notes.Again from)) here note is good =
+    resends_good w to from (front_of version (p.keeping to from)) p (Came false (items.Frame to bytes) ∷ ds)
+    (came_good w (items.Frame to bytes) p ds (λ i j seq. acks_none w to bytes i j seq (ap (λ (o : Option Note). says_so o j seq) is)) good)
 
 -- what a frame leaves that is no note
 opened_good : (w : Setting) (es : List Event) (to : ℕ) (bytes : List ℕ) (p : Peers) (ds : List Deed) (said : Result Opening OpenFault) → Good w p ds
@@ -260,22 +296,22 @@ abbrev FrameGood : Setting → List Event → ℕ → List ℕ → Waiting → P
 FrameGood w es to bytes ws p ds here note =
     let did = did_so here note (event_called w es to (events.Frame to bytes) ws) ws in
     let fs = frames_made_by w es did.event in
-    let q = keep_all fs p in
-    let more = brings_so here note (noted_so to q (noted (w.keys to) bytes)) (opened_so w es to bytes q (opening (w.keys to) bytes)) q in
+    let q = keep_all w.mode.version fs p in
+    let more = brings_so here note (noted_so w.mode.version to q (noted (w.keys to) bytes)) (opened_so w es to bytes q (opening (w.keys to) bytes)) q in
     Good w more.peers (with_deeds fs more.deeds did.replies (Came false (items.Frame to bytes) ∷ ds))
 
 frame_good : (w : Setting) (es : List Event) (to : ℕ) (bytes : List ℕ) (ws : Waiting) (p : Peers) (ds : List Deed) (here note : Bool)
     → w.is_correct to ≡ here → is_note bytes ≡ note → Good w p ds → FrameGood w es to bytes ws p ds here note
 frame_good w es to bytes ws p ds false note is kind good =
     came_good w (items.Frame to bytes) p ds (λ i j seq. ap (λ (b : Bool). b && (to == i && (is_note bytes && says_so (noted (w.keys to) bytes) j seq))) is) good
-frame_good w es to bytes ws p ds true true is kind good = note_good w to bytes p ds (noted (w.keys to) bytes) is kind refl good
+frame_good w es to bytes ws p ds true true is kind good = note_good w w.mode.version to bytes p ds (noted (w.keys to) bytes) is kind refl good
 frame_good w es to bytes ws p ds true false is kind good =
     let did = event_called w es to (events.Frame to bytes) ws in
     let fs = frames_made_by w es did.event in
     let came_so = came_good w (items.Frame to bytes) p ds
     (λ i j seq. acks_frame w to bytes i j seq kind) good in
     replied_good w did.replies _ _
-    (opened_good w es to bytes (keep_all fs p) (pushed (map Made fs) (Came false (items.Frame to bytes) ∷ ds)) (opening (w.keys to) bytes)
+    (opened_good w es to bytes (keep_all w.mode.version fs p) (pushed (map Made fs) (Came false (items.Frame to bytes) ∷ ds)) (opening (w.keys to) bytes)
     (all_made_good w fs p (Came false (items.Frame to bytes) ∷ ds) came_so))
 
 -- ---- rounds
@@ -286,13 +322,13 @@ RoundGood w past x s ds =
 
 -- its frames and its replies alone
 plain_good : (w : Setting) (es : List Event) (did : Outcome) (p : Peers) (ds : List Deed) → Good w p ds
-    → Good w (keep_all (frames_made_by w es did.event) p) (with_deeds (frames_made_by w es did.event) [] did.replies ds)
+    → Good w (keep_all w.mode.version (frames_made_by w es did.event) p) (with_deeds (frames_made_by w es did.event) [] did.replies ds)
 plain_good w es did p ds good = replied_good w did.replies _ _ (all_made_good w (frames_made_by w es did.event) p ds good)
 
-up_good : (w : Setting) (at peer : ℕ) (p : Peers) (ds : List Deed) (b : Bool) → Good w p ds
-    → Good w (if b then resends at peer p else nothing_more p).peers (pushed (if b then resends at peer p else nothing_more p).deeds ds)
-up_good w at peer p ds true good = resends_good w at peer p ds good
-up_good w at peer p ds false good = good
+up_good : (w : Setting) (version : FrameVersion) (at peer : ℕ) (p : Peers) (ds : List Deed) (b : Bool) → Good w p ds
+    → Good w (if b then connected version at peer p else nothing_more p).peers (pushed (if b then connected version at peer p else nothing_more p).deeds ds)
+up_good w version at peer p ds true good = connected_good w version at peer p ds good
+up_good w version at peer p ds false good = good
 
 round_good : (w : Setting) (past : List Event) (x : Round) (s : Serving) (ds : List Deed) → Good w s.peers ds → RoundGood w past x s ds
 round_good w past (Began item) s ds good = plain_good w (so_far past s) (first_does w (so_far past s) item s.waiting) s.peers ds good
@@ -305,7 +341,7 @@ round_good w past (Took (items.Client at conn bytes)) s ds good =
     (came_good w (items.Client at conn bytes) s.peers ds (λ i j seq. refl) good)
 round_good w past (Took (items.Reply from bytes)) s ds good = came_good w (items.Reply from bytes) s.peers ds (λ i j seq. refl) good
 round_good w past (Took (items.Up at peer)) s ds good =
-    up_good w at peer s.peers (Came false (items.Up at peer) ∷ ds) (w.is_correct at && nat_lt peer w.numbers.n)
+    up_good w w.mode.version at peer s.peers (Came false (items.Up at peer) ∷ ds) (w.is_correct at && nat_lt peer w.numbers.n)
     (came_good w (items.Up at peer) s.peers ds (λ i j seq. refl) good)
 round_good w past (Took (items.Down at peer)) s ds good = came_good w (items.Down at peer) s.peers ds (λ i j seq. refl) good
 round_good w past (Took (items.Left at conn)) s ds good = came_good w (items.Left at conn) s.peers ds (λ i j seq. refl) good
@@ -435,27 +471,32 @@ resends_open w past until limit start ds groups are sent again =
 -- ---- events that a journal kept
 
 -- where the oldest are dropped, all others stay
-room_all : (P : Kept → Type 0) (size : ℕ) (ks : List Kept) → AllByRecursion P ks → AllByRecursion P (room_for size ks)
-room_all P size [] all = tt
-room_all P size (k ∷ ks) all = by_room (nat_le (bytes_in (k ∷ ks) + size) most_kept_bytes) (room_all P size ks all.1)
+within_all : (P : Kept → Type 0) (most size : ℕ) (ks : List Kept) → AllByRecursion P ks → AllByRecursion P (room_within most size ks)
+within_all P most size [] all = tt
+within_all P most size (k ∷ ks) all = by_room (nat_le (bytes_in (k ∷ ks) + size) most) (within_all P most size ks all.1)
   where
-    by_room : (b : Bool) → AllByRecursion P (room_for size ks) → AllByRecursion P (if b then k ∷ ks else room_for size ks)
+    by_room : (b : Bool) → AllByRecursion P (room_within most size ks) → AllByRecursion P (if b then k ∷ ks else room_within most size ks)
     by_room true fewer = all
     by_room false fewer = fewer
 
-one_newest : (w : Setting) (f : MadeFrame) (p : Peers) (ds : List Deed) → Good w p ds → Good w (keep_newest f p) (Made f ∷ ds)
+room_all : (P : Kept → Type 0) (limit : Option ℕ) (size : ℕ) (ks : List Kept) → AllByRecursion P ks → AllByRecursion P (room_for limit size ks)
+room_all P None size ks all = all
+room_all P (Some most) size ks all = within_all P most size ks all
+
+one_newest : (w : Setting) (f : MadeFrame) (p : Peers) (ds : List Deed) → Good w p ds → Good w (keep_newest w.mode.version f p) (Made f ∷ ds)
 one_newest w f p ds good =
     let own = p.keeping f.from f.to in
+    let limit = most_kept w.mode.version in
     record {
-      sent = one_list w f.from f.to (keeps f.bytes (room_for (length f.bytes) own)) p (Made f ∷ ds)
-          (keeps_sent w f ds (room_for (length f.bytes) own) (room_all (IsUnacknowledged w f.from f.to ds) (length f.bytes) own (good.sent.each f.from f.to)))
+      sent = one_list w f.from f.to (keeps w.mode.version f.bytes (room_for limit (length f.bytes) own)) p (Made f ∷ ds)
+          (keeps_sent w f ds (room_for limit (length f.bytes) own) (room_all (IsUnacknowledged w f.from f.to ds) limit (length f.bytes) own (good.sent.each f.from f.to)))
           (λ a b _. made_stays w f a b ds (p.keeping a b) (good.sent.each a b));
       again = good.again;
     }
 
-newest_good : (w : Setting) (fs : List MadeFrame) (p : Peers) (ds : List Deed) → Good w p ds → Good w (all_newest fs p) (pushed (map Made fs) ds)
+newest_good : (w : Setting) (fs : List MadeFrame) (p : Peers) (ds : List Deed) → Good w p ds → Good w (all_newest w.mode.version fs p) (pushed (map Made fs) ds)
 newest_good w [] p ds good = good
-newest_good w (f ∷ fs) p ds good = newest_good w fs (keep_newest f p) (Made f ∷ ds) (one_newest w f p ds good)
+newest_good w (f ∷ fs) p ds good = newest_good w fs (keep_newest w.mode.version f p) (Made f ∷ ds) (one_newest w f p ds good)
 
 pushed_made : (fs gs : List MadeFrame) (ds : List Deed) → pushed (map Made (fs ++ gs)) ds ≡ pushed (map Made gs) (pushed (map Made fs) ds)
 pushed_made [] gs ds = refl

@@ -283,7 +283,7 @@ module _ (w : Setting) (F : List Event → Round → Type 0) (P : List Event →
   round_holds past (Reminded i j) s xs fits all = outcome_holds past (silent [] s.waiting) (brought w past (Reminded i j) s) s xs (tt, tt) all tt
   round_holds past (Took item) s xs fits all =
       outcome_holds past (item_does w (so_far past s) item s.waiting) (brought w past (Took item) s) (took s) xs
-      (item_besides w (so_far past s) item (keep_all (frames_made_by w (so_far past s) (item_does w (so_far past s) item s.waiting).event) s.peers)) all
+      (item_besides w (so_far past s) item (keep_all w.mode.version (frames_made_by w (so_far past s) (item_does w (so_far past s) item s.waiting).event) s.peers)) all
       (item_holds (so_far past s) item s.waiting fits)
 
   rounds_hold : (past : List Event) (start : Serving) (rounds : List Round) (xs : List Sent) → AreSuch w F past start rounds → AllHold (so_far past start) xs

@@ -4,7 +4,6 @@ use Rattle.std.specs.List.{flat_map}
 use Rattle.std.proofs.lemmas.List.{append-nil, reverse-reverse, take_more, drop_more, take-append-drop}
 use Rattle.std.proofs.lemmas.Grind.{flat_map-append}
 use Rattle.ritas_base.specs.declared.event.Event.{Event}
-use Rattle.outside.specs.LinkCalls.{LinkDid}
 use Rattle.outside.specs.LinkCallsLaws.{back_then}
 use Rattle.outside.specs.Links.{LinkAct, failed_once, short_once, faults_after}
 use Rattle.outside.specs.Writing.{TookFront}
@@ -16,7 +15,7 @@ use Rattle.outside.specs.declared.link.LinkFault.TheVariants as link_faults
 use Rattle.node_loop.specs.declared.end.Fault.{Fault}
 use Rattle.node_loop.specs.declared.end.Fault.TheVariants as faults
 use Rattle.node_loop.specs.Running.{IsOfTape}
-use Rattle.node_loop.specs.Outs.{events_text, Outs, Tells, Agrees, HasCauses, AllWritten, InOrder, StopsPartway}
+use Rattle.node_loop.specs.Outs.{events_text, IsCounted, LinkGiven, Outs, Tells, Agrees, HasCauses, AllWritten, InOrder, StopsPartway}
 use Rattle.node_loop.specs.Ends.{IsFaultOfLink}
 
 pub same_failed : {a b : FaultCounts} → a ≡ b → a.failed ≡ b.failed
@@ -56,7 +55,7 @@ text_front es i e old new lt is front =
 
 -- the link was given these
 pub link_goes : (tells : Tells) (base o : Outs) (events : List Event) (acts news told : List LinkAct) (count : FaultCounts)
-    → Agrees tells base o events acts → LinkDid tells.link news o.told told o.link_faults count (Ok tt)
+    → Agrees tells base o events acts → LinkGiven tells.link news o.told told o.link_faults count (Ok tt)
     → Agrees tells base (with_link o told count) events (news ++ acts)
 link_goes tells base o events acts news told count agrees did = record {
   taken = agrees.taken;
@@ -103,6 +102,13 @@ pub has_cause : (A : Type 0) (base o : Outs) (events : List Event) (acts told : 
 has_cause A base o events acts told tells count link_faults.Failed fault is agrees counts = rw is (agrees.tape_stands, counts ∙ ap failed_once agrees.link_stands)
 has_cause A base o events acts told tells count link_faults.Mem fault is agrees counts = rw is (agrees.tape_stands, inr (counts ∙ ap short_once agrees.link_stands))
 
+-- where memory may have run out before a call
+given_cause : (base o : Outs) (events : List Event) (acts told : List LinkAct) (tells : Tells) (count : FaultCounts) (x : LinkFault) (fault : Fault) → IsFaultOfLink x fault
+    → Agrees tells base o events acts → IsCounted o.link_faults count (Err x) → HasCauses base (with_link o told count) fault
+given_cause base o events acts told tells count link_faults.Failed fault is agrees counts = rw is (agrees.tape_stands, counts ∙ ap failed_once agrees.link_stands)
+given_cause base o events acts told tells count link_faults.Mem fault is agrees (inl counts) = rw is (agrees.tape_stands, inl (counts ∙ agrees.link_stands))
+given_cause base o events acts told tells count link_faults.Mem fault is agrees (inr counts) = rw is (agrees.tape_stands, inr (counts ∙ ap short_once agrees.link_stands))
+
 -- all that was written was written before
 pub whole_order : (tells : Tells) (base o : Outs) (earlier events : List Event) (sooner : List LinkAct) (fault : Fault) → IsOfLink fault → AllWritten tells base o events
     → InOrder tells base o fault earlier events sooner
@@ -110,7 +116,7 @@ whole_order tells base o earlier events sooner fault own written = of_link (λ x
 
 -- of what is new some was told before, and then a part of the rest
 pub link_stops : (tells : Tells) (base o : Outs) (earlier events : List Event) (sooner done news all told : List LinkAct) (count : FaultCounts) (x : LinkFault) (fault : Fault)
-    → IsFaultOfLink x fault → all ≡ news ++ done → Agrees tells base o events (done ++ sooner) → LinkDid tells.link news o.told told o.link_faults count (Err x)
+    → IsFaultOfLink x fault → all ≡ news ++ done → Agrees tells base o events (done ++ sooner) → LinkGiven tells.link news o.told told o.link_faults count (Err x)
     → StopsPartway tells base (with_link o told count) fault earlier events sooner all
 link_stops tells base o earlier events sooner done news all told count x fault is both agrees did = record {
   taken = λ t. all_written base.taken o.taken (events_text events) (agrees.taken t);
@@ -118,5 +124,5 @@ link_stops tells base o earlier events sooner done news all told count x fault i
   order = whole_order tells base (with_link o told count) earlier events sooner fault (link_alone x fault is) agrees.taken;
   tape_later = omega (arith, agrees.tape_stands);
   link_later = omega (arith, same_failed agrees.link_stands, did.later);
-  cause = has_cause (Unit {0}) base o events (done ++ sooner) told tells count x fault is agrees did.count;
+  cause = given_cause base o events (done ++ sooner) told tells count x fault is agrees did.count;
 }

@@ -8,10 +8,10 @@ use Rattle.std.proofs.lemmas.List.{length-set, length-replicate, length-append, 
 use Rattle.std.proofs.lemmas.List.Elements.{All-push}
 use Rattle.std.proofs.lemmas.Option.{slice_get-get_or, slice_get_within, get_or_from_slice_get, same_Some}
 use Rattle.ritas_base.specs.declared.event.Event.{Event}
+use Rattle.ritas_base.specs.declared.mode.FrameVersion.{FrameVersion}
 use Rattle.keyed_channel.specs.KeyRow.{KeyRow}
 use Rattle.keyed_channel.specs.Notes.{again_note}
-use Rattle.link_resume.specs.declared.kept.Kept.{Kept}
-use Rattle.link_resume.specs.Lists.{kept_for}
+use Rattle.link_resume.specs.Lists.{Keepings, kept_for, most_kept}
 use Rattle.ritas_core.specs.Machine.{CoreState}
 use Rattle.ritas_core.specs.Rules.{Rules}
 use Rattle.ritas_core.specs.Stands.{Meaning}
@@ -24,10 +24,11 @@ use Rattle.node_loop.specs.declared.house.House.{House}
 use Rattle.node_loop.specs.declared.output.More.TheVariants as mores
 use Rattle.node_loop.specs.declared.peers.Keeper.{Keeper}
 use Rattle.node_loop.specs.declared.peers.Mark.{Mark}
+use Rattle.node_loop.specs.declared.peers.Pending.{Pending}
 use Rattle.node_loop.specs.declared.peers.Pair.{Pair}
 use Rattle.node_loop.specs.Waiting.{Waiting, nobody}
 use Rattle.node_loop.specs.Peers.{Peers, no_peers, is_pair, with_mark}
-use Rattle.node_loop.specs.PeersStanding.{IsKeeper}
+use Rattle.node_loop.specs.PeersStanding.{AreKept, ArePending, IsKeeper}
 use Rattle.node_loop.specs.Deeds.{sends}
 use Rattle.node_loop.specs.Resending.{peers_due, due, asks_for_more}
 use Rattle.node_loop.specs.Serving.{here}
@@ -47,7 +48,7 @@ seen_there xs place x d within is = slice_get-get_or xs place d within ∙ ap (�
 
 pub keeper_at : {S E C : Type 0} (m : Meaning S E C KeyRow) (w : Setting) (es : List Event) (numbers : List ℕ) (house : House S E C) (ws : Waiting) (p : Peers) (ks : List Keeper) (place at : ℕ) (keeper d : Keeper)
     → HouseStands m w es numbers house ws p → ks ≡ house.keepers.items → slice_get numbers place ≡ Some at → place < length ks → keeper ≡ slice_index_or ks place d
-    → IsKeeper w.numbers.n at keeper p
+    → IsKeeper w.mode.version w.numbers.n at keeper p
 keeper_at m w es numbers house ws p ks place at keeper d stands same number within is =
     stands.keepers place at keeper number (ap (λ (xs : List Keeper). slice_get xs place) (sym same) ∙ seen_there ks place keeper d within is)
 
@@ -175,13 +176,11 @@ is_that_pair : (i j : ℕ) → is_pair i j i j ≡ true
 is_that_pair i j = ap₂ (λ (s t : Bool). s && t) (eq-eqb i i refl) (eq-eqb j j refl)
 
 -- the keeper of a replica with another mark for a peer
-pub marked_there : (n i peer : ℕ) (mark : Option Mark) (old new : Keeper) (p : Peers) → IsKeeper n i old p → new.resume ≡ old.resume
-    → new.marks.items ≡ slice_set old.marks.items peer mark → IsKeeper n i new (with_mark i peer mark p)
-marked_there n i peer mark old new p is same set = record {
-  kept = record {
-    many = ap length same ∙ is.kept.many;
-    each = λ j within. ap (λ (lists : List (List Kept)). kept_for lists j) same ∙ is.kept.each j within;
-  };
+pub marked_there : (version : FrameVersion) (n i peer : ℕ) (mark : Option Mark) (old new : Keeper) (p : Peers) → IsKeeper version n i old p → new ≡ record old { marks = new.marks }
+    → new.marks.items ≡ slice_set old.marks.items peer mark → IsKeeper version n i new (with_mark i peer mark p)
+marked_there version n i peer mark old new p is rest set = record {
+  version_is = ap (λ (k : Keeper). k.version) rest ∙ is.version_is;
+  kept = subst (λ (k : Keepings). AreKept version n i k p.keeping) (sym (ap (λ (k : Keeper). k.resume) rest)) is.kept;
   marked = record {
     many = ap length set ∙ (length-set old.marks.items peer mark ∙ is.marked.many);
     each = λ j within. ap (λ (marks : List (Option Mark)). slice_index_or marks j None) set ∙ elim (cases_eq j peer) [
@@ -196,23 +195,27 @@ marked_there n i peer mark old new p is same set = record {
           ∙ (is.marked.each j within ∙ sym (ap (λ (b : Bool). if b then mark else p.marks i j) (is_other_peer i peer j other)))
     ];
   };
+  pending = subst (λ (l : List (Option Pending)). ArePending n i l p.pending) (sym (ap (λ (k : Keeper). k.pending.items) rest)) is.pending;
 }
 
 -- that of another replica is as it was
-pub marked_elsewhere : (n i k peer : ℕ) (mark : Option Mark) (keeper : Keeper) (p : Peers) → (k ≡ i → ⊥) → IsKeeper n k keeper p → IsKeeper n k keeper (with_mark i peer mark p)
-marked_elsewhere n i k peer mark keeper p other is = record {
-  kept = record { many = is.kept.many; each = is.kept.each };
+pub marked_elsewhere : (version : FrameVersion) (n i k peer : ℕ) (mark : Option Mark) (keeper : Keeper) (p : Peers) → (k ≡ i → ⊥) → IsKeeper version n k keeper p
+    → IsKeeper version n k keeper (with_mark i peer mark p)
+marked_elsewhere version n i k peer mark keeper p other is = record {
+  version_is = is.version_is;
+  kept = is.kept;
   marked = record {
     many = is.marked.many;
     each = λ j within. is.marked.each j within ∙ sym (ap (λ (b : Bool). if b then mark else p.marks k j) (is_other_pair i peer k j other));
   };
+  pending = is.pending;
 }
 
 -- one keeper is another, and what is kept and marked for the other replicas stays
 pub keeper_set : {S E C : Type 0} (m : Meaning S E C KeyRow) (w : Setting) (es : List Event) (numbers : List ℕ) (old now : House S E C) (ws : Waiting) (p q : Peers) (place at : ℕ) (before new : Keeper)
     → HouseStands m w es numbers old ws p → slice_get numbers place ≡ Some at → slice_get old.keepers.items place ≡ Some before
     → AreHere m w es numbers now.replicas.items → IsWaiting now.waiting ws → now.keepers.items ≡ slice_set old.keepers.items place new
-    → IsKeeper w.numbers.n at new q → ((i : ℕ) (keeper : Keeper) → (i ≡ at → ⊥) → IsKeeper w.numbers.n i keeper p → IsKeeper w.numbers.n i keeper q)
+    → IsKeeper w.mode.version w.numbers.n at new q → ((i : ℕ) (keeper : Keeper) → (i ≡ at → ⊥) → IsKeeper w.mode.version w.numbers.n i keeper p → IsKeeper w.mode.version w.numbers.n i keeper q)
     → HouseStands m w es numbers now ws q
 keeper_set m w es numbers old now ws p q place at before new stands number there now_here waits set is others = record {
   here = now_here;
@@ -224,8 +227,8 @@ keeper_set m w es numbers old now ws p q place at before new stands number there
         let is_new : new ≡ keeper = same_Some new keeper
         (sym (get_set_same old.keepers.items place before new there) ∙ ap (slice_get (slice_set old.keepers.items place new)) same.1
         ∙ ap (λ (ks : List Keeper). slice_get ks k) (sym set) ∙ seen) in
-        let P : ℕ → Type 0 = λ x. IsKeeper w.numbers.n x new q in
-        let Q : Keeper → Type 0 = λ x. IsKeeper w.numbers.n i x q in
+        let P : ℕ → Type 0 = λ x. IsKeeper w.mode.version w.numbers.n x new q in
+        let Q : Keeper → Type 0 = λ x. IsKeeper w.mode.version w.numbers.n i x q in
         subst Q is_new (subst P one is)
     | inr other ↦
         others i keeper (λ one. other.1 (stands.here.apart place k at number (numbered ∙ ap (λ x. Some x) one)))
@@ -236,56 +239,68 @@ keeper_set m w es numbers old now ws p q place at before new stands number there
 
 -- ---- keepers of replicas for whose peers nothing is kept
 
-abbrev pub IsFresh : ℕ → Keeper → Type 0
-IsFresh n keeper = (keeper.resume ≡ replicate n []) × (keeper.marks.items ≡ replicate n None)
+pub record IsFresh (version : FrameVersion) (n : ℕ) (keeper : Keeper) : Type 0 where
+  pub version_is : keeper.version ≡ version
+  pub kept : keeper.resume ≡ record { limit = most_kept version; lists = replicate n [] }
+  pub marks : keeper.marks.items ≡ replicate n None
+  pub pending : keeper.pending.items ≡ replicate n None
 
-fresh_keeper : (n i : ℕ) (keeper : Keeper) → IsFresh n keeper → IsKeeper n i keeper no_peers
-fresh_keeper n i keeper is = record {
+fresh_keeper : (version : FrameVersion) (n i : ℕ) (keeper : Keeper) → IsFresh version n keeper → IsKeeper version n i keeper no_peers
+fresh_keeper version n i keeper is = record {
+  version_is = is.version_is;
   kept = record {
-    many = ap length is.0 ∙ length-replicate n [];
-    each = λ j within. ap (λ (lists : List (List Kept)). kept_for lists j) is.0 ∙ get_or-replicate n j [] [] within;
+    limit = ap (λ (k : Keepings). k.limit) is.kept;
+    many = ap (λ (k : Keepings). length k.lists) is.kept ∙ length-replicate n [];
+    each = λ j within. ap (λ (k : Keepings). kept_for k.lists j) is.kept ∙ get_or-replicate n j [] [] within;
   };
   marked = record {
-    many = ap length is.1 ∙ length-replicate n None;
-    each = λ j within. ap (λ (marks : List (Option Mark)). slice_index_or marks j None) is.1 ∙ get_or-replicate n j None None within;
+    many = ap length is.marks ∙ length-replicate n None;
+    each = λ j within. ap (λ (marks : List (Option Mark)). slice_index_or marks j None) is.marks ∙ get_or-replicate n j None None within;
+  };
+  pending = record {
+    many = ap length is.pending ∙ length-replicate n None;
+    each = λ j within. ap (λ (pending : List (Option Pending)). slice_index_or pending j None) is.pending ∙ get_or-replicate n j None None within;
   };
 }
 
 -- so many of them, one for each replica so far
-pub record AreFresh (n count : ℕ) (ks : List Keeper) : Type 0 where
+pub record AreFresh (version : FrameVersion) (n count : ℕ) (ks : List Keeper) : Type 0 where
   pub many : length ks ≡ count
-  pub each : All (IsFresh n) ks
+  pub each : All (IsFresh version n) ks
 
-pub fresh_first : (n : ℕ) (ks : List Keeper) → ks ≡ [] → AreFresh n 0 ks
-fresh_first n ks none = record {
+pub fresh_first : (version : FrameVersion) (n : ℕ) (ks : List Keeper) → ks ≡ [] → AreFresh version n 0 ks
+fresh_first version n ks none = record {
   many = ap length none;
-  each = subst (All (IsFresh n)) (sym none) (λ k d within. absurd (omega arith));
+  each = subst (All (IsFresh version n)) (sym none) (λ k d within. absurd (omega arith));
 }
 
-pub fresh_next : {S E C : Type 0} (m : Meaning S E C KeyRow) (w : Setting) (es : List Event) (numbers : List ℕ) (reps : List (Replica S E C)) (k : ℕ) (rep : Replica S E C) (count : ℕ) (keeper : Keeper)
-    (ks now : List Keeper)
+pub fresh_next : {S E C : Type 0} (m : Meaning S E C KeyRow) (w : Setting) (es : List Event) (numbers : List ℕ) (reps : List (Replica S E C)) (k : ℕ) (rep : Replica S E C) (version : FrameVersion)
+    (count : ℕ) (keeper : Keeper) (ks now : List Keeper)
     → AreHere m w es numbers reps → k < length reps → rep ≡ slice_index_or reps k rep
     → ((r : Rules) (row : KeyRow) (st : CoreState) → ReplicaStands m rep r row st → count ≡ row.n)
-    → AreFresh w.numbers.n k ks → IsFresh count keeper → now ≡ ks ++ keeper ∷ [] → AreFresh w.numbers.n (k + 1) now
-fresh_next m w es numbers reps k rep count keeper ks now stand within is has before fresh more =
+    → ((i : ℕ) → IsReplica m w (states_of w es) i rep → version ≡ w.mode.version)
+    → AreFresh w.mode.version w.numbers.n k ks → IsFresh version count keeper → now ≡ ks ++ keeper ∷ [] → AreFresh w.mode.version w.numbers.n (k + 1) now
+fresh_next m w es numbers reps k rep version count keeper ks now stand within is has of before fresh more =
     let there = read_replica m w es numbers reps reps k rep stand refl within is in
     let i = slice_index_or numbers k 0 in
     let n : count ≡ w.numbers.n = has (rules_at w i) (w.keys i) (states_of w es i) there.stands ∙ (stand.kind.own i (stand.kind.within i there.correct)).1 in
+    let v : version ≡ w.mode.version = of i there in
     let many = before.many in
     let long : length (ks ++ keeper ∷ []) ≡ length ks + 1 = length-append ks (keeper ∷ []) in
     record {
       many = ap length more ∙ (omega arith);
-      each = subst (All (IsFresh w.numbers.n)) (sym more) (All-push (IsFresh w.numbers.n) ks keeper before.each (subst (λ (x : ℕ). IsFresh x keeper) n fresh));
+      each = subst (All (IsFresh w.mode.version w.numbers.n)) (sym more) (All-push (IsFresh w.mode.version w.numbers.n) ks keeper before.each
+          (subst (λ (x : FrameVersion). IsFresh x w.numbers.n keeper) v (subst (λ (x : ℕ). IsFresh version x keeper) n fresh)));
     }
 
 pub new_house : {S E C : Type 0} (m : Meaning S E C KeyRow) (w : Setting) (es : List Event) (numbers : List ℕ) (house : House S E C) (reps : List (Replica S E C)) (k : ℕ)
-    → AreHere m w es numbers reps → house.replicas.items ≡ reps → IsWaiting house.waiting nobody → k ≡ length reps → AreFresh w.numbers.n k house.keepers.items
+    → AreHere m w es numbers reps → house.replicas.items ≡ reps → IsWaiting house.waiting nobody → k ≡ length reps → AreFresh w.mode.version w.numbers.n k house.keepers.items
     → HouseStands m w es numbers house nobody no_peers
 new_house m w es numbers house reps k stand same waits all fresh = record {
   here = as_here m w es numbers reps house.replicas.items same stand;
   waiting = waits;
   many = fresh.many ∙ (all ∙ stand.many);
   keepers = λ j i keeper numbered seen.
-      fresh_keeper w.numbers.n i keeper
-      (subst (IsFresh w.numbers.n) (get_or_from_slice_get house.keepers.items j keeper keeper seen) (fresh.each j keeper (slice_get_within house.keepers.items j keeper seen)));
+      fresh_keeper w.mode.version w.numbers.n i keeper
+      (subst (IsFresh w.mode.version w.numbers.n) (get_or_from_slice_get house.keepers.items j keeper keeper seen) (fresh.each j keeper (slice_get_within house.keepers.items j keeper seen)));
 }

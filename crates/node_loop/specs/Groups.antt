@@ -17,6 +17,7 @@ use Rattle.node_loop.specs.Deeds.{sends}
 use Rattle.node_loop.specs.Peers.{Keeping}
 use Rattle.node_loop.specs.PeersStanding.{kept_by}
 use Rattle.node_loop.specs.Keeping.{kept_of}
+use Rattle.node_loop.specs.Resending.{part_of}
 use Rattle.node_loop.specs.Outs.{events_text}
 use Rattle.node_loop.specs.Serving.{Serving, so_far, Round, after_from}
 use Rattle.node_loop.specs.Told.{MayJoin, AreJoined, enough_bytes, events_from, news_from, resends_by}
@@ -28,7 +29,7 @@ use Rattle.node_loop.specs.Standing.{HouseStands, is_again, frame_by, reply_by}
 abbrev pub more_by : Keeping → ℕ → More → List LinkAct
 more_by keeping at mores.Nothing = []
 more_by keeping at (mores.Note peer bytes) = sends at peer bytes ∷ []
-more_by keeping at (mores.Kept peer) = each_act (kept_by at peer) (keeping at peer)
+more_by keeping at (mores.Kept peer part) = each_act (kept_by at peer) (part_of part (keeping at peer))
 
 -- what goes to it of what came of a round: the frames, what goes to a peer besides, and then the replies
 abbrev pub acts_by : Keeping → Output → List LinkAct
@@ -43,7 +44,7 @@ acts_each f (x ∷ xs) = acts_each f xs ++ f x
 abbrev pub FitsPeers : Setting → Keeping → ℕ → More → Type 0
 FitsPeers w keeping at mores.Nothing = Unit {0}
 FitsPeers w keeping at (mores.Note peer bytes) = Unit {0}
-FitsPeers w keeping at (mores.Kept peer) = (peer < w.numbers.n) × (w.is_correct at ≡ false → keeping at peer ≡ [])
+FitsPeers w keeping at (mores.Kept peer part) = (peer < w.numbers.n) × (w.is_correct at ≡ false → part_of part (keeping at peer) ≡ [])
 
 -- ---- what a group holds
 

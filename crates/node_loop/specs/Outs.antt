@@ -1,15 +1,16 @@
 -- What a tape took and a link told while it was served, against what serving says.
-use Rattle.std.specs.Prelude.{◌≡◌, ℕ, ◌≤◌, Bool, true, List, ◌++◌, reverse, Result, Ok, Err, ◌⊎◌}
+use Rattle.std.specs.Prelude.{◌≡◌, ℕ, ◌≤◌, Bool, true, List, ◌++◌, reverse, Result, Ok, Err, OnOk, ◌⊎◌}
 use Rattle.std.specs.List.{flat_map}
 use Rattle.ritas_base.specs.declared.event.Event.{Event}
 use Rattle.outside.specs.Faults.{count_after}
 use Rattle.outside.specs.Links.{LinkAct, failed_once, short_once}
-use Rattle.outside.specs.LinkCalls.{LinkDid, TookBack}
+use Rattle.outside.specs.LinkCalls.{TookBack}
 use Rattle.outside.specs.Writing.{TookFront}
 use Rattle.outside.specs.declared.link.FaultCounts.{FaultCounts}
 use Rattle.outside.specs.declared.link.Link.{Ghosts as LinkGhosts}
 use Rattle.outside.specs.declared.sink.Sink.{Ghosts as SinkGhosts}
 use Rattle.outside.specs.declared.link.LinkFault.{LinkFault}
+use Rattle.outside.specs.declared.link.LinkFault.TheVariants as link_faults
 use Rattle.schedule_file.specs.Spelling.{event_text}
 use Rattle.node_loop.specs.declared.end.Fault.{Fault}
 use Rattle.node_loop.specs.declared.end.Fault.TheVariants as faults
@@ -34,10 +35,24 @@ outs_of sink connection tape link = record {
   link_faults = connection.faults link;
 }
 
--- a link did these calls, the newest first, or as many of them as came before its fault
+-- How often calls of a link failed or were without memory, where they ended so: as often as before, or once more. Where memory ran out it
+-- may have been before a call, as a frame was made ready for it.
+abbrev pub IsCounted : FaultCounts → FaultCounts → Result (Unit {0}) LinkFault → Type 0
+IsCounted before now (Ok done) = now ≡ before
+IsCounted before now (Err link_faults.Failed) = now ≡ failed_once before
+IsCounted before now (Err link_faults.Mem) = (now ≡ before) ⊎ (now ≡ short_once before)
+
+-- these calls of a link were to be made, the newest first: all were, or as many as came before a fault
+pub record LinkGiven (tells : Bool) (acts old new : List LinkAct) (before now : FaultCounts) (result : Result (Unit {0}) LinkFault) : Type 0 where
+  pub whole : tells ≡ true → OnOk result (new ≡ acts ++ old)
+  pub back : tells ≡ true → TookBack old new acts
+  pub later : before.failed ≤ now.failed
+  pub count : IsCounted before now result
+
+-- a link was given these calls, the newest first, or as many of them as came before a fault
 abbrev pub LinkTook : {L : Type 0} → LinkGhosts L → List LinkAct → L → L → Result (Unit {0}) LinkFault → Type 0
 LinkTook connection acts old new result =
-    LinkDid connection.tells acts (connection.told old) (connection.told new) (connection.faults old) (connection.faults new) result
+    LinkGiven connection.tells acts (connection.told old) (connection.told new) (connection.faults old) (connection.faults new) result
 
 -- no call of them failed, and none of the link was without memory
 abbrev pub NoneFailed : Outs → Outs → Type 0

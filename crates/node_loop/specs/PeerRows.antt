@@ -1,10 +1,11 @@
 -- Worked rows of what is kept for a peer and sent again, on frames of a few bytes.
 use Rattle.std.specs.Prelude.{◌≡◌, [], ◌∷◌, Some, None, true, false, refl}
+use Rattle.ritas_base.specs.declared.mode.FrameVersion.TheVariants.{One, Two, Three}
 use Rattle.world_model.specs.MadeOrder.{MadeFrame}
 use Rattle.keyed_channel.specs.declared.note.Note.TheVariants.{Ack, Again}
-use Rattle.node_loop.specs.Peers.{Peers, no_peers, keep_all, has_come_further}
+use Rattle.node_loop.specs.Peers.{Peers, no_peers, keep_all, with_pending, has_come_further}
 use Rattle.node_loop.specs.Deeds.{Resent}
-use Rattle.node_loop.specs.Resending.{resends, noted_so}
+use Rattle.node_loop.specs.Resending.{connected, noted_so}
 
 -- two frames of replica 0 for 1, with the numbers 0 and 1, of as many bytes as show their numbers
 abbrev zero : MadeFrame
@@ -14,7 +15,7 @@ abbrev one : MadeFrame
 one = record { event = 1; from = 0; to = 1; bytes = 1 ∷ 0 ∷ 1 ∷ 0 ∷ 0 ∷ 0 ∷ 0 ∷ 0 ∷ 0 ∷ 0 ∷ 1 ∷ 8 ∷ [] }
 
 abbrev kept_both : Peers
-kept_both = keep_all (zero ∷ one ∷ []) no_peers
+kept_both = keep_all Two (zero ∷ one ∷ []) no_peers
 
 -- both are kept under their numbers, for 1 alone
 kept_row : (kept_both.keeping 0 1 ≡ record { seq = 0; frame = zero.bytes } ∷ record { seq = 1; frame = one.bytes } ∷ [])
@@ -22,19 +23,57 @@ kept_row : (kept_both.keeping 0 1 ≡ record { seq = 0; frame = zero.bytes } ∷
 kept_row = (refl, refl, refl)
 
 -- when 1 has a connection again, both go out again, the oldest first
-pub up_row : (resends 0 1 kept_both).deeds ≡ Resent 0 1 zero.bytes ∷ Resent 0 1 one.bytes ∷ []
-up_row = refl
+up_rows : ((connected One 0 1 kept_both).deeds ≡ Resent 0 1 zero.bytes ∷ Resent 0 1 one.bytes ∷ [])
+    × ((connected Two 0 1 kept_both).deeds ≡ Resent 0 1 zero.bytes ∷ Resent 0 1 one.bytes ∷ [])
+up_rows = (refl, refl)
 
 -- when it asks for what it didn't take, they do too
-again_row : (noted_so 0 kept_both (Some (Again 1))).deeds ≡ Resent 0 1 zero.bytes ∷ Resent 0 1 one.bytes ∷ []
+again_row : (noted_so Two 0 kept_both (Some (Again 1))).deeds ≡ Resent 0 1 zero.bytes ∷ Resent 0 1 one.bytes ∷ []
 again_row = refl
 
 -- what it acknowledged doesn't; another's acknowledgement, one of another number and what is no note change nothing
-ack_rows : ((noted_so 0 kept_both (Some (Ack 1 0))).peers.keeping 0 1 ≡ record { seq = 1; frame = one.bytes } ∷ [])
-    × ((noted_so 0 kept_both (Some (Ack 2 0))).peers.keeping 0 1 ≡ kept_both.keeping 0 1)
-    × ((noted_so 0 kept_both (Some (Ack 1 2))).peers.keeping 0 1 ≡ kept_both.keeping 0 1)
-    × ((noted_so 0 kept_both None).peers.keeping 0 1 ≡ kept_both.keeping 0 1)
+ack_rows : ((noted_so Two 0 kept_both (Some (Ack 1 0))).peers.keeping 0 1 ≡ record { seq = 1; frame = one.bytes } ∷ [])
+    × ((noted_so Two 0 kept_both (Some (Ack 2 0))).peers.keeping 0 1 ≡ kept_both.keeping 0 1)
+    × ((noted_so Two 0 kept_both (Some (Ack 1 2))).peers.keeping 0 1 ≡ kept_both.keeping 0 1)
+    × ((noted_so Two 0 kept_both None).peers.keeping 0 1 ≡ kept_both.keeping 0 1)
 ack_rows = (refl, refl, refl, refl)
+
+-- ---- version 3
+
+-- a third frame, of number 2
+abbrev two : MadeFrame
+two = record { event = 2; from = 0; to = 1; bytes = 3 ∷ 0 ∷ 1 ∷ 0 ∷ 0 ∷ 0 ∷ 0 ∷ 0 ∷ 0 ∷ 0 ∷ 2 ∷ 9 ∷ [] }
+
+abbrev kept_three : Peers
+kept_three = keep_all Three (zero ∷ one ∷ two ∷ []) no_peers
+
+-- a connection brings a batch, here of all three, and how far it went is noted
+connected_rows : ((connected Three 0 1 kept_three).deeds ≡ Resent 0 1 zero.bytes ∷ Resent 0 1 one.bytes ∷ Resent 0 1 two.bytes ∷ [])
+    × ((connected Three 0 1 kept_three).peers.pending 0 1 ≡ Some (record { last = 2; end = 2 }))
+    × ((connected Three 0 2 kept_three).peers.pending 0 2 ≡ None)
+connected_rows = (refl, refl, refl)
+
+-- where the newest batch ended with number 0, and those up to 1 are to go out
+abbrev under_way : Peers
+under_way = with_pending 0 1 (Some (record { last = 0; end = 1 })) kept_three
+
+-- with the acknowledgement of that the next batch goes out, up to the end and no further; with another's number nothing does
+next_rows : ((noted_so Three 0 under_way (Some (Ack 1 0))).deeds ≡ Resent 0 1 one.bytes ∷ [])
+    × ((noted_so Three 0 under_way (Some (Ack 1 0))).peers.pending 0 1 ≡ Some (record { last = 1; end = 1 }))
+    × ((noted_so Three 0 under_way (Some (Ack 1 1))).deeds ≡ [])
+    × ((noted_so Three 0 under_way (Some (Ack 1 1))).peers.pending 0 1 ≡ Some (record { last = 0; end = 1 }))
+    × ((noted_so Two 0 under_way (Some (Ack 1 0))).deeds ≡ [])
+next_rows = (refl, refl, refl, refl, refl)
+
+-- with that of the last of all it is over
+over_rows : ((noted_so Three 0 (with_pending 0 1 (Some (record { last = 2; end = 2 })) kept_three) (Some (Ack 1 2))).deeds ≡ [])
+    × ((noted_so Three 0 (with_pending 0 1 (Some (record { last = 2; end = 2 })) kept_three) (Some (Ack 1 2))).peers.pending 0 1 ≡ None)
+over_rows = (refl, refl)
+
+-- a note that asks again brings the batch at the front, and how far it went stays
+again_rows : ((noted_so Three 0 under_way (Some (Again 1))).deeds ≡ Resent 0 1 zero.bytes ∷ Resent 0 1 one.bytes ∷ Resent 0 1 two.bytes ∷ [])
+    × ((noted_so Three 0 under_way (Some (Again 1))).peers.pending 0 1 ≡ Some (record { last = 0; end = 1 }))
+again_rows = (refl, refl)
 
 -- a marked peer is asked when fewer bytes are held for it, or when the replica has come further
 due_rows : (has_come_further (record { progress = 3; held = 50 }) (record { progress = 3; held = 50 }) ≡ false)

@@ -1,10 +1,12 @@
 -- What is kept for peers until they acknowledge it, and who is to be asked to send again. All lists here have the oldest first.
-use Rattle.std.specs.Prelude.{ℕ, ◌+◌, ◌==◌, ◌&&◌, ◌||◌, Bool, false, nat_le, nat_lt, List, [], ◌∷◌, ◌++◌, length, Option, Some, None, if◌then◌else◌}
+use Rattle.std.specs.Prelude.{ℕ, ◌+◌, ◌==◌, ◌&&◌, ◌||◌, Bool, false, nat_lt, List, [], ◌∷◌, ◌++◌, length, Option, Some, None, if◌then◌else◌}
 use Rattle.link_resume.specs.declared.kept.Kept.{Kept}
-use Rattle.link_resume.specs.Lists.{bytes_in, most_kept_bytes, all_but}
+use Rattle.ritas_base.specs.declared.mode.FrameVersion.{FrameVersion}
+use Rattle.link_resume.specs.Lists.{bytes_in, most_kept, may_have, all_but}
 use Rattle.keyed_channel.specs.Frames.{seq_of}
 use Rattle.world_model.specs.MadeOrder.{MadeFrame}
 use Rattle.node_loop.specs.declared.peers.Mark.{Mark}
+use Rattle.node_loop.specs.declared.peers.Pending.{Pending}
 
 -- the frames of a replica that wait for a peer to acknowledge them
 abbrev pub Keeping : Type 0
@@ -15,12 +17,18 @@ Keeping = ℕ → ℕ → List Kept
 abbrev pub Marks : Type 0
 Marks = ℕ → ℕ → Option Mark
 
+-- the peers of a replica that are sent what was kept for them a batch at a time: the number of the newest batch's last frame, and that of
+-- the last frame which is to go out so
+abbrev pub Pendings : Type 0
+Pendings = ℕ → ℕ → Option Pending
+
 pub record Peers : Type 0 where
   pub keeping : Keeping
   pub marks : Marks
+  pub pending : Pendings
 
 abbrev pub no_peers : Peers
-no_peers = record { keeping = λ i j. []; marks = λ i j. None }
+no_peers = record { keeping = λ i j. []; marks = λ i j. None; pending = λ i j. None }
 
 abbrev pub is_pair : ℕ → ℕ → ℕ → ℕ → Bool
 is_pair i j a b = a == i && b == j
@@ -33,18 +41,23 @@ with_list i j kept p = record p { keeping = λ a b. if is_pair i j a b then kept
 abbrev pub with_mark : ℕ → ℕ → Option Mark → Peers → Peers
 with_mark i j mark p = record p { marks = λ a b. if is_pair i j a b then mark else p.marks a b }
 
+-- so far what was kept at i went out again to j
+abbrev pub with_pending : ℕ → ℕ → Option Pending → Peers → Peers
+with_pending i j pending p = record p { pending = λ a b. if is_pair i j a b then pending else p.pending a b }
+
 -- ---- what is kept
 
--- a frame is kept under the number that it carries, unless the bytes would be too many
-abbrev pub keeps : List ℕ → List Kept → List Kept
-keeps frame kept = if nat_le (bytes_in kept + length frame) most_kept_bytes then kept ++ record { seq = seq_of frame; frame = frame } ∷ [] else kept
+-- a frame is kept under the number that it carries, unless the bytes would be too many; in version 3 they never are
+abbrev pub keeps : FrameVersion → List ℕ → List Kept → List Kept
+keeps version frame kept =
+    if may_have (most_kept version) (bytes_in kept + length frame) then kept ++ record { seq = seq_of frame; frame = frame } ∷ [] else kept
 
-abbrev pub keep_one : MadeFrame → Peers → Peers
-keep_one f p = with_list f.from f.to (keeps f.bytes (p.keeping f.from f.to)) p
+abbrev pub keep_one : FrameVersion → MadeFrame → Peers → Peers
+keep_one version f p = with_list f.from f.to (keeps version f.bytes (p.keeping f.from f.to)) p
 
-abbrev pub keep_all : List MadeFrame → Peers → Peers
-keep_all [] p = p
-keep_all (f ∷ fs) p = keep_all fs (keep_one f p)
+abbrev pub keep_all : FrameVersion → List MadeFrame → Peers → Peers
+keep_all version [] p = p
+keep_all version (f ∷ fs) p = keep_all version fs (keep_one version f p)
 
 -- replica i is told that j took the frame of a number
 abbrev pub acknowledged : ℕ → ℕ → ℕ → Peers → Peers

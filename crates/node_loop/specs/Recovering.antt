@@ -2,7 +2,8 @@
 use Rattle.std.specs.Prelude.{List, [], ◌∷◌, length, map, Some, None}
 use Rattle.ritas_base.specs.declared.event.Event.{Event}
 use Rattle.ritas_base.specs.declared.event.Event.TheVariants as events
-use Rattle.link_resume.specs.Lists.{room_for}
+use Rattle.ritas_base.specs.declared.mode.FrameVersion.{FrameVersion}
+use Rattle.link_resume.specs.Lists.{room_for, most_kept}
 use Rattle.world_model.specs.World.{Setting}
 use Rattle.world_model.specs.MadeOrder.{MadeFrame, all_made}
 use Rattle.node_loop.specs.Calls.{Outcome, event_called, silent, submitted}
@@ -13,12 +14,13 @@ use Rattle.node_loop.specs.Told.{after_groups}
 use Rattle.node_loop.specs.Waiting.{Waiting, nobody}
 
 -- a frame is kept; where it doesn't fit, the oldest are dropped first
-abbrev pub keep_newest : MadeFrame → Peers → Peers
-keep_newest f p = with_list f.from f.to (keeps f.bytes (room_for (length f.bytes) (p.keeping f.from f.to))) p
+abbrev pub keep_newest : FrameVersion → MadeFrame → Peers → Peers
+keep_newest version f p =
+    with_list f.from f.to (keeps version f.bytes (room_for (most_kept version) (length f.bytes) (p.keeping f.from f.to))) p
 
-abbrev pub all_newest : List MadeFrame → Peers → Peers
-all_newest [] p = p
-all_newest (f ∷ fs) p = all_newest fs (keep_newest f p)
+abbrev pub all_newest : FrameVersion → List MadeFrame → Peers → Peers
+all_newest version [] p = p
+all_newest version (f ∷ fs) p = all_newest version fs (keep_newest version f p)
 
 -- what comes of an event that is recovered: an input that is taken waits for its row with no connection
 abbrev pub recalled : Setting → List Event → Event → Waiting → Outcome
@@ -36,7 +38,7 @@ recalled_waiting w (e ∷ es) = (recalled w es e (recalled_waiting w es)).waitin
 -- what is kept for peers after them; nobody is marked
 abbrev pub recalled_peers : Setting → List Event → Peers
 recalled_peers w [] = no_peers
-recalled_peers w (e ∷ es) = all_newest (frames_made_by w es (Some e)) (recalled_peers w es)
+recalled_peers w (e ∷ es) = all_newest w.mode.version (frames_made_by w es (Some e)) (recalled_peers w es)
 
 -- with what serving begins after these events; none of their frames goes out by it
 abbrev pub recovered : Setting → List Event → Serving

@@ -1,9 +1,13 @@
 -- What comes of an item for the peers of the replicas that are here: acknowledgements, and frames that are sent again.
-use Rattle.std.specs.Prelude.{ℕ, ◌+◌, ◌&&◌, Bool, true, false, nat_lt, List, [], ◌∷◌, map, filter, sum_by, Option, Some, None, Result, Ok, Err, if◌then◌else◌}
+use Rattle.std.specs.Prelude.{ℕ, ◌+◌, ◌==◌, ◌&&◌, Bool, true, false, nat_lt, List, [], ◌∷◌, map, filter, sum_by, Option, Some, None, Result, Ok, Err, if◌then◌else◌}
 use Rattle.std.specs.List.{flat_map}
 use Rattle.ritas_base.specs.declared.event.Event.{Event}
 use Rattle.ritas_base.specs.declared.event.Event.TheVariants as events
+use Rattle.ritas_base.specs.declared.mode.FrameVersion.{FrameVersion}
+use Rattle.ritas_base.specs.declared.mode.FrameVersion.TheVariants.{One, Two, Three}
 use Rattle.ritas_base.specs.History.{replicas}
+use Rattle.link_resume.specs.declared.kept.Kept.{Kept}
+use Rattle.link_resume.specs.Lists.{between, batch, last_seq}
 use Rattle.outside.specs.declared.link.LinkItem.{LinkItem}
 use Rattle.outside.specs.declared.link.LinkItem.TheVariants as items
 use Rattle.keyed_channel.specs.Frames.{Opening, opening}
@@ -20,9 +24,12 @@ use Rattle.replica.specs.declared.refusal.Refusal.TheVariants as refusals
 use Rattle.world_model.specs.declared.seen.Seen.{Seen}
 use Rattle.world_model.specs.declared.seen.Seen.TheVariants as seen
 use Rattle.world_model.specs.World.{Setting, rules_at, states_of, seen_of}
-use Rattle.node_loop.specs.Peers.{Peers, with_mark, acknowledged, is_due_of}
+use Rattle.node_loop.specs.Peers.{Peers, with_mark, with_pending, acknowledged, is_due_of}
 use Rattle.node_loop.specs.declared.peers.Mark.{Mark}
+use Rattle.node_loop.specs.declared.output.Part.{Part}
+use Rattle.node_loop.specs.declared.output.Part.TheVariants as parts_are
 use Rattle.node_loop.specs.declared.peers.Pair.{Pair}
+use Rattle.node_loop.specs.declared.peers.Pending.{Pending}
 use Rattle.node_loop.specs.Deeds.{Deed, Resent, Acked, Wished}
 
 -- what comes of an item or a turn for peers: what goes out after the frames of the call and before its replies, in order, and
@@ -62,25 +69,70 @@ opened_so w es i bytes p (Ok o) = if is_deferred (seen_of w es (events.Frame i b
     then nothing_more (with_mark i o.from (Some (mark_at w (events.Frame i bytes ∷ es) i o.from)) p)
     else record { deeds = Acked i o.from o.seq ∷ []; peers = p }
 
--- ---- a note
+-- ---- what goes out again
 
--- what is kept for a peer is sent again
-abbrev pub resends : ℕ → ℕ → Peers → Brought
-resends i j p = record { deeds = map (λ k. Resent i j k.frame) (p.keeping i j); peers = p }
+-- all that is kept for a peer, or a batch of it: the one at the front of the frames behind a number, if there is one, up to the last one
+abbrev pub part_of : Part → List Kept → List Kept
+part_of parts_are.All kept = kept
+part_of (parts_are.Batch after last) kept = batch (between after last kept)
 
-abbrev pub noted_so : ℕ → Peers → Option Note → Brought
-noted_so i p None = nothing_more p
-noted_so i p (Some (notes.Ack from seq)) = nothing_more (acknowledged i from seq p)
-noted_so i p (Some (notes.Again from)) = resends i from p
+-- such a part of what is kept for a peer is sent again
+abbrev pub resends : ℕ → ℕ → Part → Peers → Brought
+resends i j part p = record { deeds = map (λ k. Resent i j k.frame) (part_of part (p.keeping i j)); peers = p }
+
+-- the number of the newest frame; 0 where there is none
+abbrev pub newest_in : List Kept → ℕ
+newest_in kept = last_seq 0 kept
+
+-- the part with which sending again begins: in version 3 a batch
+abbrev pub front_of : FrameVersion → List Kept → Part
+front_of One kept = parts_are.All
+front_of Two kept = parts_are.All
+front_of Three kept = parts_are.Batch None (newest_in kept)
+
+-- how far it went with this batch, of those up to a last one; nowhere where it has no frame
+abbrev pub reached : ℕ → List Kept → Option Pending
+reached end [] = None
+reached end (k ∷ ks) = Some (record { last = last_seq k.seq ks; end = end })
+
+-- a batch is sent again, of the frames behind a number, if there is one, up to a last one; with the acknowledgement of its own last the next
+-- one follows
+abbrev pub sends_batch : ℕ → ℕ → Option ℕ → ℕ → Peers → Brought
+sends_batch i j after end p =
+    resends i j (parts_are.Batch after end) (with_pending i j (reached end (batch (between after end (p.keeping i j)))) p)
+
+-- ---- a note, and a connection
+
+-- it was the last of a batch, and the next one follows
+abbrev pub goes_on : ℕ → ℕ → ℕ → Option Pending → Peers → Brought
+goes_on i j seq None p = nothing_more p
+goes_on i j seq (Some pending) p = if pending.last == seq then sends_batch i j (Some seq) pending.end p else nothing_more p
+
+-- replica i is told that j took the frame of a number
+abbrev pub acked_so : FrameVersion → ℕ → ℕ → ℕ → Peers → Brought
+acked_so One i j seq p = nothing_more (acknowledged i j seq p)
+acked_so Two i j seq p = nothing_more (acknowledged i j seq p)
+acked_so Three i j seq p = goes_on i j seq (p.pending i j) (acknowledged i j seq p)
+
+abbrev pub noted_so : FrameVersion → ℕ → Peers → Option Note → Brought
+noted_so version i p None = nothing_more p
+noted_so version i p (Some (notes.Ack from seq)) = acked_so version i from seq p
+noted_so version i p (Some (notes.Again from)) = resends i from (front_of version (p.keeping i from)) p
+
+-- a peer has a connection
+abbrev pub connected : FrameVersion → ℕ → ℕ → Peers → Brought
+connected One i j p = resends i j parts_are.All p
+connected Two i j p = resends i j parts_are.All p
+connected Three i j p = sends_batch i j None (newest_in (p.keeping i j)) p
 
 -- ---- an item
 
 -- with what was kept of the frames of its call
 abbrev pub item_brings : Setting → List Event → LinkItem → Peers → Brought
 item_brings w es (items.Frame to bytes) p = if w.is_correct to
-    then (if is_note bytes then noted_so to p (noted (w.keys to) bytes) else opened_so w es to bytes p (opening (w.keys to) bytes))
+    then (if is_note bytes then noted_so w.mode.version to p (noted (w.keys to) bytes) else opened_so w es to bytes p (opening (w.keys to) bytes))
     else nothing_more p
-item_brings w es (items.Up at peer) p = if w.is_correct at && nat_lt peer w.numbers.n then resends at peer p else nothing_more p
+item_brings w es (items.Up at peer) p = if w.is_correct at && nat_lt peer w.numbers.n then connected w.mode.version at peer p else nothing_more p
 item_brings w es (items.Client at conn bytes) p = nothing_more p
 item_brings w es (items.Reply from bytes) p = nothing_more p
 item_brings w es (items.Down at peer) p = nothing_more p

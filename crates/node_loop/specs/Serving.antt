@@ -155,7 +155,7 @@ brings_peers w es (Reminded i j) p = asks_for_more i j p
 brings_peers w es (Took item) p = item_brings w es item p
 
 abbrev pub brought : Setting → List Event → Round → Serving → Brought
-brought w past x s = brings_peers w (so_far past s) x (keep_all (frames_made_by w (so_far past s) (outcome w past x s).event) s.peers)
+brought w past x s = brings_peers w (so_far past s) x (keep_all w.mode.version (frames_made_by w (so_far past s) (outcome w past x s).event) s.peers)
 
 abbrev pub round_does : Setting → List Event → Round → Serving → Serving
 round_does w past x s = with_outcome (outcome w past x s) (brought w past x s) (at_call x s)

@@ -26,7 +26,7 @@ use Rattle.node_loop.specs.Waiting.{Waiting}
 use Rattle.node_loop.specs.Calls.{Outcome}
 use Rattle.node_loop.specs.Peers.{Peers, keep_all}
 use Rattle.node_loop.specs.Deeds.{Resent, act_of, has_resent, sends}
-use Rattle.node_loop.specs.Resending.{Brought}
+use Rattle.node_loop.specs.Resending.{Brought, part_of}
 use Rattle.node_loop.specs.Keeping.{has_kept}
 use Rattle.node_loop.specs.Serving.{frames_made_by, sent_by, onto}
 use Rattle.node_loop.specs.PeersStanding.{IsKeeper}
@@ -40,7 +40,7 @@ pub record HouseStands {S E C : Type 0} (m : Meaning S E C KeyRow) (w : Setting)
   pub here : AreHere m w es numbers house.replicas.items
   pub waiting : IsWaiting house.waiting ws
   pub many : length house.keepers.items ≡ length numbers
-  pub keepers : (k i : ℕ) (keeper : Keeper) → slice_get numbers k ≡ Some i → slice_get house.keepers.items k ≡ Some keeper → IsKeeper w.numbers.n i keeper p
+  pub keepers : (k i : ℕ) (keeper : Keeper) → slice_get numbers k ≡ Some i → slice_get house.keepers.items k ≡ Some keeper → IsKeeper w.mode.version w.numbers.n i keeper p
 
 -- ---- what comes of an item or a turn, at replica `at`
 
@@ -63,17 +63,18 @@ pub record IsEmptyOutput (o : Output) : Type 0 where
   pub replies : o.replies.items ≡ []
   pub kept : o.kept ≡ false
 
--- all that is kept for a peer goes out again
+-- a part of what is kept for a peer goes out again
 abbrev pub is_again : More → Bool
 is_again mores.Nothing = false
 is_again (mores.Note peer bytes) = false
-is_again (mores.Kept peer) = true
+is_again (mores.Kept peer part) = true
 
--- what goes to a peer besides: nothing, a note, or all that is kept for it
+-- what goes to a peer besides: nothing, a note, or a part of what is kept for it
 abbrev pub IsMore : Setting → ℕ → More → Brought → Type 0
 IsMore w at mores.Nothing more = more.deeds ≡ []
 IsMore w at (mores.Note peer bytes) more = (map (act_of w.keys) more.deeds ≡ sends at peer bytes ∷ []) × (has_resent more.deeds ≡ false)
-IsMore w at (mores.Kept peer) more = (peer < w.numbers.n) × (more.deeds ≡ map (λ k. Resent at peer k.frame) (more.peers.keeping at peer))
+IsMore w at (mores.Kept peer part) more =
+    (peer < w.numbers.n) × (more.deeds ≡ map (λ k. Resent at peer k.frame) (part_of part (more.peers.keeping at peer)))
 
 -- so it is, and frames go out again just where some are kept
 pub record IsMoreNow (w : Setting) (at : ℕ) (goes : More) (more : Brought) : Type 0 where
@@ -91,7 +92,7 @@ pub record ComesOut {S E C : Type 0} (m : Meaning S E C KeyRow) (w : Setting) (e
   pub nowhere : w.is_correct output.at ≡ false → (did.event ≡ None) × (more.deeds ≡ [])
   pub replies : map (reply_by output.at) output.replies.items ≡ did.replies
   pub before : Peers
-  pub kept : keep_all (frames_made_by w es did.event) before ≡ more.peers
+  pub kept : keep_all w.mode.version (frames_made_by w es did.event) before ≡ more.peers
   pub stands : HouseStands m w (onto did.event es) numbers now did.waiting before
 
 abbrev pub is_before_other : ℕ → Option ℕ → Bool

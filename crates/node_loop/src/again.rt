@@ -25,10 +25,10 @@ use std::sync::Wait;
 
 /// Serves one replica again, after the events that its journal kept, or for the first time, where
 /// there are none (`event_journal::open_journal` gives both). These events happen to it first, with
-/// no reply, and the tape takes them. The frames of their calls are kept for their peers, where the
-/// oldest make room for the newest, and none goes to the link by that. A request that was taken and
-/// isn't in the log waits, with no connection. Then it serves as `serve` does, with no items to
-/// begin with.
+/// no reply, and the tape takes them. The frames of their calls are kept for their peers, and none
+/// goes to the link by that. In versions 1 and 2 of a session the oldest make room for the newest;
+/// in version 3 all are kept. A request that was taken and isn't in the log waits, with no
+/// connection. Then it serves as `serve` does, with no items to begin with.
 ///
 /// Each call that was answered `Took` or `Held`, and each turn, is appended to the journal, after
 /// its event went to the tape and before its frames, its acknowledgement and its replies go out:

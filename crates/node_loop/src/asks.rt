@@ -123,7 +123,7 @@ impl<S: Service, E: Broadcast, C: Coin + Drop> House<S, E, C> {
             → message.asked ≡ asked_in output.old.at message.bytes
             → let did = submitted w es output.old.at message.conn message.bytes ws in
             OnOk result (ComesOut m w es numbers self.new output.new did
-            (nothing_more (keep_all (frames_made_by w es did.event) p))) }
+            (nothing_more (keep_all w.mode.version (frames_made_by w es did.event) p))) }
         ensures sized { length message.bytes < 2 ^ 16
             → OnOk result (IfSome output.new.event IsSized) }
     {
@@ -180,7 +180,7 @@ impl<S: Service, E: Broadcast, C: Coin + Drop> House<S, E, C> {
             (position_of (rows_at w es output.old.at) (asked_in output.old.at message.bytes).client
             (asked_in output.old.at message.bytes).request) in
             OnOk result (ComesOut m w es numbers self.new output.new did
-            (nothing_more (keep_all (frames_made_by w es did.event) p))) }
+            (nothing_more (keep_all w.mode.version (frames_made_by w es did.event) p))) }
         ensures memory { let m = meaning_of S.Service E.Broadcast C.Coin in
             (w : Setting) (es : List Event) (numbers : List ℕ) (ws : Waiting) (p : Peers)
             → HouseStands m w es numbers self.old ws p
@@ -250,7 +250,7 @@ impl<S: Service, E: Broadcast, C: Coin + Drop> House<S, E, C> {
             → slice_get numbers place ≡ Some output.old.at → IsEmptyOutput output.old
             → let did = asks_so w es output.old.at conn bytes ws (request_in bytes) in
             OnOk result (ComesOut m w es numbers self.new output.new did
-            (nothing_more (keep_all (frames_made_by w es did.event) p))) }
+            (nothing_more (keep_all w.mode.version (frames_made_by w es did.event) p))) }
         ensures memory { let m = meaning_of S.Service E.Broadcast C.Coin in
             (w : Setting) (es : List Event) (numbers : List ℕ) (ws : Waiting) (p : Peers)
             → HouseStands m w es numbers self.old ws p
@@ -283,7 +283,7 @@ impl<S: Service, E: Broadcast, C: Coin + Drop> House<S, E, C> {
             → HouseStands m w es numbers self.old ws p
             → let did = if_here w at (asks w es at conn bytes ws) ws in
             OnOk result (ComesOut m w es numbers self.new output.new did
-            (nothing_more (keep_all (frames_made_by w es did.event) p))) }
+            (nothing_more (keep_all w.mode.version (frames_made_by w es did.event) p))) }
         ensures memory { let m = meaning_of S.Service E.Broadcast C.Coin in
             (w : Setting) (es : List Event) (numbers : List ℕ) (ws : Waiting) (p : Peers)
             → HouseStands m w es numbers self.old ws p
@@ -304,15 +304,15 @@ impl<S: Service, E: Broadcast, C: Coin + Drop> House<S, E, C> {
         }
     }
 
-    // A note comes to the replica at a place: what is acknowledged isn't kept any more, or what is
-    // kept is to go out again.
+    // A note comes to the replica at a place: what is acknowledged isn't kept any more, and where it
+    // was the last of a batch the next one is to go out; or what is kept is to go out again.
     fn note(&mut self, place: usize, bytes: &[u8], output: &mut Output)
         ensures comes { let m = meaning_of S.Service E.Broadcast C.Coin in
             (w : Setting) (es : List Event) (numbers : List ℕ) (ws : Waiting) (p : Peers)
             → HouseStands m w es numbers self.old ws p
             → slice_get numbers place ≡ Some output.old.at → IsEmptyOutput output.old
             → ComesOut m w es numbers self.new output.new (silent [] ws)
-            (noted_so output.old.at p (noted (w.keys output.old.at) bytes.now)) }
+            (noted_so w.mode.version output.old.at p (noted (w.keys output.old.at) bytes.now)) }
         ensures none { output.new.event ≡ output.old.event }
     {
         noted_from_peer();
@@ -322,10 +322,14 @@ impl<S: Service, E: Broadcast, C: Coin + Drop> House<S, E, C> {
         match replica.channel().open_note(bytes) {
             Some(Note::Ack { from, seq }) => {
                 if let Some(keeper) = self.keepers.get_mut(place) {
-                    keeper.acked(from, seq);
+                    output.more = keeper.acked(from, seq);
                 }
             }
-            Some(Note::Again { from }) => output.more = More::Kept { peer: from },
+            Some(Note::Again { from }) => {
+                if let Some(keeper) = self.keepers.get(place) {
+                    output.more = keeper.again(from);
+                }
+            }
             None => {}
         }
     }
@@ -429,7 +433,7 @@ impl<S: Service, E: Broadcast, C: Coin + Drop> House<S, E, C> {
             → at ≡ output.old.at → slice_get numbers place ≡ Some at → IsEmptyOutput output.old
             → OnOk result (ComesOut m w es numbers self.new output.new
             (event_called w es at (Frame at bytes) ws)
-            (opened_so w es at bytes (keep_all (frames_made_by w es (Some (Frame at bytes))) p)
+            (opened_so w es at bytes (keep_all w.mode.version (frames_made_by w es (Some (Frame at bytes))) p)
             (opening (w.keys at) bytes))) }
         ensures sized { length bytes < 2 ^ 16 → OnOk result (IfSome output.new.event IsSized) }
     {
@@ -456,7 +460,7 @@ impl<S: Service, E: Broadcast, C: Coin + Drop> House<S, E, C> {
             → let did = item_does w es (items.Frame to bytes) ws in
             OnOk result (ComesOut m w es numbers self.new output.new did
             (item_brings w es (items.Frame to bytes)
-            (keep_all (frames_made_by w es did.event) p))) }
+            (keep_all w.mode.version (frames_made_by w es did.event) p))) }
         ensures memory { let m = meaning_of S.Service E.Broadcast C.Coin in
             (w : Setting) (es : List Event) (numbers : List ℕ)
             → AreHere m w es numbers self.old.replicas.items
@@ -474,7 +478,8 @@ impl<S: Service, E: Broadcast, C: Coin + Drop> House<S, E, C> {
         self.frame(alloc, place, bytes, output)
     }
 
-    // A peer of a replica has a connection: what is kept for it is to go out again.
+    // A peer of a replica has a connection: what is kept for it is to go out again, all of it or a
+    // first batch.
     fn up(&mut self, at: u8, peer: u8, output: &mut Output)
         ensures comes { let m = meaning_of S.Service E.Broadcast C.Coin in
             (w : Setting) (es : List Event) (numbers : List ℕ) (ws : Waiting) (p : Peers)
@@ -487,10 +492,8 @@ impl<S: Service, E: Broadcast, C: Coin + Drop> House<S, E, C> {
         let Some(place) = self.place_of(at) else {
             return;
         };
-        if let Some(replica) = self.replicas.get(place) {
-            if peer < replica.keys().n() {
-                output.more = More::Kept { peer };
-            }
+        if let Some(keeper) = self.keepers.get_mut(place) {
+            output.more = keeper.connected(peer);
         }
     }
 
@@ -507,7 +510,7 @@ impl<S: Service, E: Broadcast, C: Coin + Drop> House<S, E, C> {
             → HouseStands m w es numbers self.old ws p
             → let did = item_does w es item ws in
             OnOk result (ComesOut m w es numbers self.new output.new did
-            (item_brings w es item (keep_all (frames_made_by w es did.event) p))) }
+            (item_brings w es item (keep_all w.mode.version (frames_made_by w es did.event) p))) }
         ensures memory { let m = meaning_of S.Service E.Broadcast C.Coin in
             (w : Setting) (es : List Event) (numbers : List ℕ) (ws : Waiting) (p : Peers)
             → HouseStands m w es numbers self.old ws p
@@ -551,7 +554,7 @@ impl<S: Service, E: Broadcast, C: Coin + Drop> House<S, E, C> {
             → HouseStands m w es numbers self.old ws p
             → let did = first_does w es item.now ws in
             OnOk result (ComesOut m w es numbers self.new output.new did
-            (nothing_more (keep_all (frames_made_by w es did.event) p))) }
+            (nothing_more (keep_all w.mode.version (frames_made_by w es did.event) p))) }
         ensures sized { OnOk result (IfSome output.new.event IsSized) }
     {
         match item {

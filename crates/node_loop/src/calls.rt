@@ -4,6 +4,7 @@ use crate::enter::enter_rows;
 use crate::house::House;
 use crate::output::Output;
 use crate::refusals::{is_kept, told};
+use keyed_channel::LazyFrame;
 use layer_api::{Broadcast, Service};
 use replica::{OutFrame, Refusal};
 use ritas_base::{Coin, Event, Mem};
@@ -49,7 +50,7 @@ impl<S: Service, E: Broadcast, C: Coin + Drop> House<S, E, C> {
         alloc: Global,
         place: usize,
         event: &Event,
-        frames: &mut Vec<OutFrame>,
+        frames: &mut Vec<OutFrame<LazyFrame>>,
     ) -> Result<Result<Answer, Refusal>, Mem>
         ensures does { let m = meaning_of S.Service E.Broadcast C.Coin in
             (w : Setting) (es : List Event) (numbers : List ℕ) (at : ℕ) → AreHere m w es numbers self.old.replicas.items
@@ -68,9 +69,9 @@ impl<S: Service, E: Broadcast, C: Coin + Drop> House<S, E, C> {
             return Ok(Ok(Answer::Idle));
         };
         let answer = match event {
-            Event::Frame { bytes, .. } => replica.on_frame(alloc, bytes.as_slice(), frames),
-            Event::Input { bytes, .. } => replica.on_input(alloc, bytes.as_slice(), frames),
-            Event::Turn { .. } => replica.on_turn(alloc, frames),
+            Event::Frame { bytes, .. } => replica.on_frame_lazily(alloc, bytes.as_slice(), frames),
+            Event::Input { bytes, .. } => replica.on_input_lazily(alloc, bytes.as_slice(), frames),
+            Event::Turn { .. } => replica.on_turn_lazily(alloc, frames),
             // No other event is a call on one replica alone.
             _ => return Ok(Ok(Answer::Idle)),
         };
@@ -124,7 +125,7 @@ impl<S: Service, E: Broadcast, C: Coin + Drop> House<S, E, C> {
             → slice_get numbers place ≡ Some output.old.at
             → IsAlone output.old.at event → IsEmptyOutput output.old
             → OnOk result (ComesOut m w es numbers self.new output.new
-            (event_called w es output.old.at event ws) (nothing_more (keep_all (frames_made_by w es (Some event)) p))) }
+            (event_called w es output.old.at event ws) (nothing_more (keep_all w.mode.version (frames_made_by w es (Some event)) p))) }
         ensures sized { IsSized event → OnOk result (IfSome output.new.event IsSized) }
     {
         let count = self.rows_at(place);
@@ -140,7 +141,7 @@ impl<S: Service, E: Broadcast, C: Coin + Drop> House<S, E, C> {
             (w : Setting) (es : List Event) (numbers : List ℕ) (ws : Waiting) (p : Peers) → HouseStands m w es numbers self.old ws p
             → w.is_correct at ≡ true
             → OnOk result (ComesOut m w es numbers self.new output.new
-            (event_called w es at (Turn at) ws) (nothing_more (keep_all (frames_made_by w es (Some (Turn at))) p))) }
+            (event_called w es at (Turn at) ws) (nothing_more (keep_all w.mode.version (frames_made_by w es (Some (Turn at))) p))) }
         ensures memory { let m = meaning_of S.Service E.Broadcast C.Coin in
             (w : Setting) (es : List Event) (numbers : List ℕ) → AreHere m w es numbers self.old.replicas.items
             → OnErr result (w.is_correct at ≡ true) }

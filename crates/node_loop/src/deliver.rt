@@ -1,10 +1,10 @@
 //! What a tape and a link are given.
-ghost use Rattle.std.specs.Prelude.{◌≡◌, ℕ, ◌<◌, ◌≤◌, ◌++◌, ◌∷◌, List, length, map, [], true, All, IfSome, IfErr, OnOk, OnErr, MatchOption};
+ghost use Rattle.std.specs.Prelude.{◌≡◌, ℕ, ◌<◌, ◌==◌, ◌++◌, ◌∷◌, List, length, map, [], true, IfSome, IfErr, OnOk, OnErr, MatchOption};
 ghost use Rattle.std.specs.List.{AllByRecursion, Any};
 ghost use Rattle.ritas_base.specs.declared.event.Event.{Event};
 ghost use Rattle.outside.specs.LinkCalls.{each_act};
 ghost use Rattle.outside.specs.Links.{LinkAct, Replies};
-ghost use Rattle.keyed_channel.specs.Lengths.{head_length};
+ghost use Rattle.ritas_base.specs.declared.mode.FrameVersion.{FrameVersion};
 ghost use Rattle.link_resume.specs.Lists.{kept_for};
 ghost use Rattle.schedule_file.specs.Spelling.{IsSized};
 ghost use Rattle.world_model.specs.World.{Setting};
@@ -13,7 +13,9 @@ ghost use Rattle.node_loop.specs.Calls.{Outcome};
 ghost use Rattle.node_loop.specs.Waiting.{Waiting};
 ghost use Rattle.node_loop.specs.Peers.{Peers, keep_all};
 ghost use Rattle.node_loop.specs.PeersStanding.{AreKept, kept_by, made_as};
-ghost use Rattle.node_loop.specs.Resending.{Brought};
+ghost use Rattle.node_loop.specs.declared.output.Part.{Part as APart};
+ghost use Rattle.node_loop.specs.Deeds.{sends};
+ghost use Rattle.node_loop.specs.Resending.{Brought, part_of};
 ghost use Rattle.node_loop.specs.Outs.{Outs, Tells, Agrees, StepsInOrder, events_text, LinkTook};
 ghost use Rattle.node_loop.specs.Serving.{Serving, Round, so_far, onto, at_call, outcome, brought, after_from};
 ghost use Rattle.node_loop.specs.Standing.{HouseStands, ComesOut, IsMore, IsMoreNow, frame_by, reply_by};
@@ -24,11 +26,12 @@ use crate::archive::Archive;
 use crate::end::Fault;
 use crate::group::Group;
 use crate::house::House;
-use crate::output::{More, Output, Reply};
+use crate::output::{More, Output, Part, Reply};
 use crate::peers::keep;
 use crate::server::Server;
+use keyed_channel::LazyFrame;
 use layer_api::{Broadcast, Service};
-use link_resume::Resume;
+use link_resume::{Batch, Resume};
 use outside::{Link, LinkFault, Sink, write_all};
 use replica::OutFrame;
 use ritas_base::{Coin, Event, Mem};
@@ -37,15 +40,15 @@ use std::net::Net;
 use std::sync::Wait;
 
 // Keeps these frames of a replica for their peers, in order. The one error is want of memory.
-fn keep_each(resume: &mut Resume, alloc: Global, frames: &[OutFrame]) -> Result<(), Mem>
-    ensures keeps { (n i k : ℕ) (p : Peers) → All (λ f. head_length ≤ length f.bytes) frames.now → AreKept n i resume.old p.keeping
-        → OnOk result (AreKept n i resume.new (keep_all (map (made_as k i) frames.now) p).keeping) }
+fn keep_each(resume: &mut Resume, frames: &[OutFrame<LazyFrame>]) -> Result<(), Mem>
+    ensures keeps { (v : FrameVersion) (n i k : ℕ) (p : Peers) → AreKept v n i resume.old p.keeping
+        → OnOk result (AreKept v n i resume.new (keep_all v (map (made_as k i) frames.now) p).keeping) }
     // Memory may run out only over a frame of a peer.
-    ensures memory { (n i k : ℕ) (p : Peers) → All (λ f. head_length ≤ length f.bytes) frames.now
-        → AreKept n i resume.old p.keeping → OnErr result (Any (λ f. f.to < n) frames.now) }
+    ensures memory { (v : FrameVersion) (n i k : ℕ) (p : Peers) → AreKept v n i resume.old p.keeping
+        → OnErr result (Any (λ f. f.to < n) frames.now) }
 {
     for frame in frames {
-        keep(resume, alloc, frame.to, frame.bytes.as_slice())?;
+        keep(resume, frame.to, &frame.bytes)?;
     }
     Ok(())
 }
@@ -53,7 +56,6 @@ fn keep_each(resume: &mut Resume, alloc: Global, frames: &[OutFrame]) -> Result<
 // Keeps the frames that came for their peers. The one error is want of memory.
 fn keep_frames<S: Service, E: Broadcast, C: Coin + Drop>(
     house: &mut House<S, E, C>,
-    alloc: Global,
     output: &Output,
 ) -> Result<(), Mem>
     ensures keeps { let m = meaning_of S.Service E.Broadcast C.Coin in
@@ -67,15 +69,29 @@ fn keep_frames<S: Service, E: Broadcast, C: Coin + Drop>(
         → OnErr result ((w.is_correct output.now.at ≡ true)
         × Any (λ f. f.to < w.numbers.n) output.now.frames.items) }
 {
-    keyed_channel::sealed_length();
     let Some(place) = house.place_of(output.at) else {
         // Nothing comes of what is for a replica that isn't here.
         return Ok(());
     };
     match house.keepers.get_mut(place) {
-        Some(keeper) => keep_each(&mut keeper.resume, alloc, output.frames.as_slice()),
+        Some(keeper) => keep_each(&mut keeper.resume, output.frames.as_slice()),
         None => Ok(()),
     }
+}
+
+// Sends a frame of a replica, whose tag is computed now.
+fn send_frame<R: Net + Wait, L: Link>(
+    rt: &R,
+    alloc: Global,
+    link: &mut L,
+    at: u8,
+    to: u8,
+    frame: &LazyFrame,
+) -> Result<(), LinkFault>
+    ensures sends { LinkTook L.Link (sends at to frame.now ∷ []) link.old link.new result }
+{
+    let bytes = frame.to_bytes(alloc)?;
+    link.send(rt, alloc, at, to, bytes.as_slice())
 }
 
 // Sends the frames of a replica, in order.
@@ -84,12 +100,12 @@ fn send_all<R: Net + Wait, L: Link>(
     alloc: Global,
     link: &mut L,
     at: u8,
-    frames: &[OutFrame],
+    frames: &[OutFrame<LazyFrame>],
 ) -> Result<(), LinkFault>
     ensures sends { LinkTook L.Link (each_act (frame_by at) frames.now) link.old link.new result }
 {
     for frame in frames {
-        link.send(rt, alloc, at, frame.to, frame.bytes.as_slice())?;
+        send_frame(rt, alloc, link, at, frame.to, &frame.bytes)?;
     }
     Ok(())
 }
@@ -103,13 +119,52 @@ fn send_kept<R: Net + Wait, L: Link>(
     resume: &Resume,
     peer: u8,
 ) -> Result<(), LinkFault>
-    requires peer { peer < length resume.now }
-    ensures sends { LinkTook L.Link (each_act (kept_by at peer) (kept_for resume.now peer)) link.old link.new result }
+    requires peer { peer < length resume.now.lists }
+    ensures sends { LinkTook L.Link (each_act (kept_by at peer) (kept_for resume.now.lists peer)) link.old link.new result }
 {
     for kept in resume.frames(peer) {
-        link.send(rt, alloc, at, peer, kept.frame.as_slice())?;
+        send_frame(rt, alloc, link, at, peer, &kept.frame)?;
     }
     Ok(())
+}
+
+// Sends a batch again, the oldest frame first.
+fn send_batch<R: Net + Wait, L: Link>(
+    rt: &R,
+    alloc: Global,
+    link: &mut L,
+    at: u8,
+    peer: u8,
+    mut batch: Batch<'_>,
+) -> Result<(), LinkFault>
+    ensures sends { LinkTook L.Link (each_act (kept_by at peer) batch.entry) link.old link.new result }
+{
+    while let Some(kept) = batch.next_frame() {
+        send_frame(rt, alloc, link, at, peer, &kept.frame)?;
+    }
+    Ok(())
+}
+
+// Sends a part of what is kept for a peer again.
+fn send_part<R: Net + Wait, L: Link>(
+    rt: &R,
+    alloc: Global,
+    link: &mut L,
+    at: u8,
+    resume: &Resume,
+    peer: u8,
+    part: Part,
+) -> Result<(), LinkFault>
+    requires peer { peer < length resume.now.lists }
+    ensures sends { LinkTook L.Link (each_act (kept_by at peer) (part_of part (kept_for resume.now.lists peer))) link.old link.new result }
+{
+    match part {
+        Part::All => send_kept(rt, alloc, link, at, resume, peer),
+        Part::Batch { after, last } => {
+            let batch = resume.batch(peer, after, last);
+            send_batch(rt, alloc, link, at, peer, batch)
+        }
+    }
 }
 
 // What is kept for the peers of a replica, if something may be for this one.
@@ -118,11 +173,11 @@ fn resume_of<S: Service, E: Broadcast, C: Coin + Drop>(
     at: u8,
     peer: u8,
 ) -> Option<&Resume>
-    ensures peer { IfSome result (λ resume. peer < length resume.now) }
+    ensures peer { IfSome result (λ resume. peer < length resume.now.lists) }
     ensures kept { let m = meaning_of S.Service E.Broadcast C.Coin in
-        (w : Setting) (es : List Event) (numbers : List ℕ) (ws : Waiting) (p : Peers) → HouseStands m w es numbers house.now ws p
-        → FitsPeers w p.keeping at (More.Kept peer)
-        → MatchOption result (p.keeping at peer ≡ []) (λ resume. kept_for resume.now peer ≡ p.keeping at peer) }
+        (w : Setting) (es : List Event) (numbers : List ℕ) (ws : Waiting) (p : Peers) (part : APart) → HouseStands m w es numbers house.now ws p
+        → FitsPeers w p.keeping at (More.Kept peer part)
+        → MatchOption result (part_of part (p.keeping at peer) ≡ []) (λ resume. kept_for resume.now.lists peer ≡ p.keeping at peer) }
 {
     let Some(place) = house.place_of(at) else {
         // Nothing is kept at what isn't here.
@@ -139,7 +194,7 @@ fn resume_of<S: Service, E: Broadcast, C: Coin + Drop>(
     Some(&keeper.resume)
 }
 
-// Sends all that is kept for a peer of a replica again.
+// Sends a part of what is kept for a peer of a replica again.
 fn send_again<R: Net + Wait, S: Service, E: Broadcast, C: Coin + Drop, L: Link>(
     rt: &R,
     alloc: Global,
@@ -147,14 +202,15 @@ fn send_again<R: Net + Wait, S: Service, E: Broadcast, C: Coin + Drop, L: Link>(
     link: &mut L,
     at: u8,
     peer: u8,
+    part: Part,
 ) -> Result<(), LinkFault>
     ensures sends { let m = meaning_of S.Service E.Broadcast C.Coin in
         (w : Setting) (es : List Event) (numbers : List ℕ) (ws : Waiting) (p : Peers) → HouseStands m w es numbers house.now ws p
-        → FitsPeers w p.keeping at (More.Kept peer)
-        → LinkTook L.Link (each_act (kept_by at peer) (p.keeping at peer)) link.old link.new result }
+        → FitsPeers w p.keeping at (More.Kept peer part)
+        → LinkTook L.Link (each_act (kept_by at peer) (part_of part (p.keeping at peer))) link.old link.new result }
 {
     match resume_of(house, at, peer) {
-        Some(resume) => send_kept(rt, alloc, link, at, resume, peer),
+        Some(resume) => send_part(rt, alloc, link, at, resume, peer, part),
         None => Ok(()),
     }
 }
@@ -176,7 +232,7 @@ fn send_more<R: Net + Wait, S: Service, E: Broadcast, C: Coin + Drop, L: Link>(
     match more {
         More::Nothing => Ok(()),
         More::Note { peer, bytes } => link.send(rt, alloc, at, peer, &bytes),
-        More::Kept { peer } => send_again(rt, alloc, house, link, at, peer),
+        More::Kept { peer, part } => send_again(rt, alloc, house, link, at, peer, part),
     }
 }
 
@@ -251,19 +307,31 @@ fn write<K: Sink>(tape: &mut K, text: &[u8]) -> Result<(), Fault>
     }
 }
 
-// How many frames are kept for a peer of a replica.
-fn count_kept<S: Service, E: Broadcast, C: Coin + Drop>(
+// Whether a part of what is kept for a peer has no frame.
+fn is_nothing(resume: &Resume, peer: u8, part: Part) -> bool
+    requires peer { peer < length resume.now.lists }
+    ensures nothing { result ≡ (length (part_of part (kept_for resume.now.lists peer)) == 0) }
+{
+    match part {
+        Part::All => resume.count(peer) == 0,
+        Part::Batch { after, last } => resume.batch(peer, after, last).next_frame().is_none(),
+    }
+}
+
+// Whether a part of what is kept for a peer of a replica has no frame.
+fn is_empty<S: Service, E: Broadcast, C: Coin + Drop>(
     house: &House<S, E, C>,
     at: u8,
     peer: u8,
-) -> usize
-    ensures count { let m = meaning_of S.Service E.Broadcast C.Coin in
+    part: Part,
+) -> bool
+    ensures nothing { let m = meaning_of S.Service E.Broadcast C.Coin in
         (w : Setting) (es : List Event) (numbers : List ℕ) (ws : Waiting) (p : Peers) → HouseStands m w es numbers house.now ws p
-        → FitsPeers w p.keeping at (More.Kept peer) → result ≡ length (p.keeping at peer) }
+        → FitsPeers w p.keeping at (More.Kept peer part) → result ≡ (length (part_of part (p.keeping at peer)) == 0) }
 {
     match resume_of(house, at, peer) {
-        Some(resume) => resume.count(peer),
-        None => 0,
+        Some(resume) => is_nothing(resume, peer, part),
+        None => true,
     }
 }
 
@@ -277,10 +345,10 @@ fn more_now<S: Service, E: Broadcast, C: Coin + Drop>(
         (w : Setting) (es : List Event) (numbers : List ℕ) (ws : Waiting) (brings : Brought) → HouseStands m w es numbers house.now ws brings.peers
         → FitsPeers w brings.peers.keeping at more → IsMore w at more brings → IsMoreNow w at result brings }
 {
-    let More::Kept { peer } = more else {
+    let More::Kept { peer, part } = more else {
         return more;
     };
-    if count_kept(house, at, peer) == 0 {
+    if is_empty(house, at, peer, part) {
         return More::Nothing;
     }
     more
@@ -289,7 +357,6 @@ fn more_now<S: Service, E: Broadcast, C: Coin + Drop>(
 /// What came of a round joins the group, and its frames are kept for their peers. The one error is want of memory, which a
 /// group may have anyhow; that it has none where memory is ample is tested (`stack_tests`, `cases/floods`).
 pub(crate) fn gather<S: Service, E: Broadcast, C: Coin + Drop>(
-    alloc: Global,
     house: &mut House<S, E, C>,
     group: &mut Group,
     mut output: Output,
@@ -302,7 +369,7 @@ pub(crate) fn gather<S: Service, E: Broadcast, C: Coin + Drop>(
         → GroupHolds w past start newest group.old → JoinsGroup newest x group.old
         → OnOk result (Under m w past numbers start (x ∷ newest) house.new group.new) }
 {
-    keep_frames(house, alloc, &output)?;
+    keep_frames(house, &output)?;
     output.more = more_now(house, output.at, output.more);
     group.add(output)
 }

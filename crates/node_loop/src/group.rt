@@ -24,11 +24,11 @@ pub(crate) struct Group {
     pub outputs: Vec<Output>,
     /// Of earlier groups, for rounds to come, which then take no memory.
     spare: Vec<Output>,
-    /// Whether all that is kept for a peer goes out again by the newest round. By no other it does.
+    /// Whether frames that are kept for a peer go out again by the newest round. By no other they do.
     pub resends: bool,
 }
 
-// Whether all that is kept for a peer goes out again.
+// Whether frames that are kept for a peer go out again.
 fn is_again(more: More) -> bool
     ensures again { result ≡ is_again more }
 {

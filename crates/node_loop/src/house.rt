@@ -10,7 +10,7 @@ ghost use Rattle.node_loop.specs.Serving.{is_busy};
 ghost use Rattle.node_loop.specs.Standing.{is_before_other};
 
 use crate::output::{More, Output};
-use crate::peers::{Keeper, Pair};
+use crate::peers::{Keeper, Pair, version_of};
 use crate::waiting::Waiters;
 use layer_api::{Broadcast, Service};
 use replica::Replica;
@@ -108,7 +108,7 @@ impl<S: Service, E: Broadcast, C: Coin + Drop> House<S, E, C> {
     {
         let mut keepers = Vec::new(alloc);
         for replica in replicas.iter() {
-            keepers.push(Keeper::new(alloc, replica.keys().n())?)?;
+            keepers.push(Keeper::new(alloc, replica.keys().n(), version_of(replica))?)?;
         }
         Ok(House {
             replicas: std::mem::replace(replicas, Vec::new(alloc)),

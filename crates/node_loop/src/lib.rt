@@ -6,6 +6,18 @@
 //!
 //! `serve` takes the link's items one after the other, by the rules that stand at it; `specs/Calls.antt` says what comes of each. The
 //! items determine all that it does (`one_run`), and what a fault leaves is a front of it (`only_grows`).
+//!
+//! The frames of each call are kept for each peer until it acknowledges them, in the order in which they were
+//! made (`specs/Peers.antt`), and go out again where the peer has a new connection, or asks for them
+//! (`specs/Resending.antt`). How they do depends on the version of the session:
+//! - In versions 1 and 2 at most 8,388,608 bytes are kept for one peer. A frame that doesn't fit goes out and
+//!   isn't kept; of the frames that a journal's events make, the newest are kept. All that is kept for a peer
+//!   goes out again at once.
+//! - In version 3 all is kept, and goes out again in batches: the oldest frames, as many as have 262,144
+//!   bytes together, and at least one. A new connection begins with a batch. With the acknowledgement of its
+//!   last frame the next batch follows, up to the frame that was the newest as the connection came: a peer
+//!   that was away for long is sent its frames as fast as it takes them. A peer that asks is sent the first
+//!   batch of what is kept, and by that no other follows.
 #![tactic(auto)]
 
 mod again;

@@ -4,7 +4,7 @@ ghost use Rattle.node_loop.specs.declared.output.More.TheVariants as mores;
 ghost use Rattle.node_loop.specs.Standing.{bytes_said};
 
 use client_port::REPLY_LEN;
-use keyed_channel::NOTE_LEN;
+use keyed_channel::{LazyFrame, NOTE_LEN};
 use replica::OutFrame;
 use ritas_base::{Bytes, Event};
 use std::alloc::Global;
@@ -39,6 +39,15 @@ pub(crate) struct Reply {
     pub bytes: ReplyBytes,
 }
 
+/// Which of the frames that are kept for a peer go out again.
+#[derive(Clone, Copy)]
+pub(crate) enum Part {
+    /// All of them.
+    All,
+    /// The batch at the front of those behind a number, if there is one, up to the last one.
+    Batch { after: Option<u64>, last: u64 },
+}
+
 /// What goes to a peer besides the frames of a call.
 #[derive(Clone, Copy)]
 pub(crate) enum More {
@@ -46,8 +55,8 @@ pub(crate) enum More {
     Nothing,
     /// A note.
     Note { peer: u8, bytes: [u8; NOTE_LEN] },
-    /// All frames that it didn't acknowledge.
-    Kept { peer: u8 },
+    /// A part of the frames that it didn't acknowledge.
+    Kept { peer: u8, part: Part },
 }
 
 /// What comes of an item or a turn at one replica: the event that it is, if it is one, the frames of its call, what goes to a peer
@@ -60,8 +69,8 @@ pub(crate) struct Output {
     pub event: Option<Event>,
     /// Whether there is one that a journal keeps.
     pub kept: bool,
-    /// The frames, in the order in which they were made.
-    pub frames: Vec<OutFrame>,
+    /// The frames, in the order in which they were made. Their tags are computed as they go out.
+    pub frames: Vec<OutFrame<LazyFrame>>,
     /// What goes to a peer besides.
     pub more: More,
     /// The replies, in the order in which they go out.

@@ -1,23 +1,25 @@
 //! What is kept for the peers of a replica until they acknowledge it, and who of them is to be asked to send again.
-ghost use Rattle.std.specs.Prelude.{◌≡◌, ℕ, ◌+◌, ◌<◌, ◌≤◌, ◌∷◌, List, [], length, replicate};
-ghost use Rattle.std.specs.Prelude.{slice_set, slice_index_or, true, Some, None, IfOk, OnOk, OnErr, MatchOption};
-ghost use Rattle.link_resume.specs.Lists.{bytes_in, kept_for, most_kept_bytes};
+ghost use Rattle.std.specs.Prelude.{◌≡◌, ℕ, ◌+◌, ◌<◌, ◌∷◌, List, [], length, replicate};
+ghost use Rattle.std.specs.Prelude.{slice_set, slice_index_or, nat_lt, true, if◌then◌else◌, Some, None, IfOk, OnOk, OnErr, MatchOption};
+ghost use Rattle.ritas_base.specs.declared.mode.FrameVersion.{FrameVersion as AVersion};
+ghost use Rattle.link_resume.specs.Lists.{bytes_in, kept_for, most_kept, IsWithin, between, batch};
 ghost use Rattle.ritas_base.specs.declared.event.Event.{Event};
-ghost use Rattle.keyed_channel.specs.Lengths.{head_length};
 ghost use Rattle.world_model.specs.World.{Setting, rules_at, states_of};
 ghost use Rattle.world_model.specs.EveryWorld.{IsWorld};
 ghost use Rattle.world_model.specs.Stands.{IsReplica};
 ghost use Rattle.node_loop.specs.Meanings.{meaning_of};
 ghost use Rattle.node_loop.specs.declared.peers.Pair.{Pair as APair};
-ghost use Rattle.node_loop.specs.Peers.{Peers, with_list, keeps, acknowledged, is_due_of};
+ghost use Rattle.node_loop.specs.Peers.{Peers, with_list, keeps, is_due_of};
 ghost use Rattle.node_loop.specs.PeersStanding.{AreKept, IsKeeper};
-ghost use Rattle.node_loop.specs.Resending.{replica_progress, mark_at, peers_due};
+ghost use Rattle.node_loop.specs.Resending.{replica_progress, mark_at, peers_due, nothing_more, reached, newest_in, resends, front_of, sends_batch, goes_on, acked_so, connected};
+ghost use Rattle.node_loop.specs.Standing.{IsMore};
 
-use keyed_channel::frame_header;
+use crate::output::{More, Part};
+use keyed_channel::LazyFrame;
 use layer_api::{Broadcast, Service};
-use link_resume::{KeepFault, Resume};
+use link_resume::{KeepFault, Resume, most_kept};
 use replica::Replica;
-use ritas_base::{Coin, Mem};
+use ritas_base::{Coin, FrameVersion, Mem};
 use std::alloc::Global;
 
 /// How far a replica had come, and how many bytes it held for a peer.
@@ -38,11 +40,22 @@ pub(crate) struct Pair {
     pub peer: u8,
 }
 
-/// What is kept for the peers of one replica, and the marks that they have.
+/// How far what is kept for a peer went out again, a batch at a time.
+#[derive(Clone, Copy)]
+pub(crate) struct Pending {
+    /// The number of the last frame of the newest batch. With its acknowledgement the next batch goes out.
+    pub last: u64,
+    /// The number of the last frame that is to go out so.
+    pub end: u64,
+}
+
+/// What is kept for the peers of one replica in a session of a version, the marks that they have, and how far it went out again to each.
 #[derive(Drop)]
 pub(crate) struct Keeper {
+    pub version: FrameVersion,
     pub resume: Resume,
     pub marks: Vec<Option<Mark>>,
+    pub pending: Vec<Option<Pending>>,
 }
 
 // How far a replica has come: its completed rounds and all its bases.
@@ -84,22 +97,29 @@ pub(crate) fn mark_of<S: Service, E: Broadcast, C: Coin + Drop>(
     }
 }
 
-/// Keeps a frame under the number that it carries, unless too many bytes are kept for the peer. What is no peer, and what is too short for
-/// a number, is passed over. The one error is want of memory.
-pub(crate) fn keep(resume: &mut Resume, alloc: Global, peer: u8, frame: &[u8]) -> Result<(), Mem>
-    ensures kept { (n i : ℕ) (p : Peers) → head_length ≤ length frame.now → AreKept n i resume.old p.keeping
-        → OnOk result (AreKept n i resume.new (with_list i peer (keeps frame.now (p.keeping i peer)) p).keeping) }
-    // Memory may run out only where the frame is of a peer, and fits.
-    ensures err { OnErr result ((peer < length resume.old) × (head_length ≤ length frame.now)
-        × (bytes_in (kept_for resume.old peer) + length frame.now ≤ most_kept_bytes)) }
+/// The version of a replica's session.
+pub(crate) fn version_of<S: Service, E: Broadcast, C: Coin + Drop>(
+    replica: &Replica<S, E, C>,
+) -> FrameVersion
+    ensures version { let m = meaning_of S.Service E.Broadcast C.Coin in
+        (w : Setting) (es : List Event) (i : ℕ) → IsReplica m w (states_of w es) i replica.now → result ≡ w.mode.version }
 {
-    let Some(header) = frame_header(frame) else {
-        return Ok(());
-    };
+    replica.core().mode().version
+}
+
+/// Keeps a frame once more under the number that it carries, unless too many bytes are kept for the peer. What is no peer is passed over.
+/// The one error is want of memory.
+pub(crate) fn keep(resume: &mut Resume, peer: u8, frame: &LazyFrame) -> Result<(), Mem>
+    ensures kept { (v : AVersion) (n i : ℕ) (p : Peers) → AreKept v n i resume.old p.keeping
+        → OnOk result (AreKept v n i resume.new (with_list i peer (keeps v frame.now (p.keeping i peer)) p).keeping) }
+    // Memory may run out only where the frame is of a peer, and fits.
+    ensures err { OnErr result ((peer < length resume.old.lists)
+        × IsWithin resume.old.limit (bytes_in (kept_for resume.old.lists peer) + length frame.now)) }
+{
     if usize::from(peer) >= resume.peers() {
         return Ok(());
     }
-    match resume.keep(alloc, peer, header.seq, frame) {
+    match resume.keep(peer, frame.parts().seq, frame) {
         Ok(()) => Ok(()),
         Err(KeepFault::QueueFull(_)) => Ok(()),
         Err(KeepFault::Mem) => Err(Mem),
@@ -107,28 +127,156 @@ pub(crate) fn keep(resume: &mut Resume, alloc: Global, peer: u8, frame: &[u8]) -
 }
 
 impl Keeper {
-    /// Nothing is kept for any of n peers, and none is marked. The one error is want of memory.
-    pub(crate) fn new(alloc: Global, n: u8) -> Result<Keeper, Mem>
-        ensures none { IfOk result (λ keeper. (keeper.resume ≡ replicate n []) × (keeper.marks.items ≡ replicate n None)) }
+    /// Nothing is kept for any of n peers, in a session of this version, and none is marked. The one error is want of memory.
+    pub(crate) fn new(alloc: Global, n: u8, version: FrameVersion) -> Result<Keeper, Mem>
+        ensures none { IfOk result (λ keeper. (keeper.version ≡ version)
+            × (keeper.resume ≡ record { limit = most_kept version; lists = replicate n [] })
+            × (keeper.marks.items ≡ replicate n None) × (keeper.pending.items ≡ replicate n None)) }
     {
         Ok(Keeper {
-            resume: Resume::new(alloc, n)?,
+            version,
+            resume: Resume::new(alloc, n, most_kept(version))?,
             marks: Vec::from_elem(alloc, None, usize::from(n))?,
+            pending: Vec::from_elem(alloc, None, usize::from(n))?,
         })
     }
 
-    /// The frame of this number isn't kept for the peer any more.
-    pub(crate) fn acked(&mut self, peer: u8, seq: u64)
-        ensures acked { (n i : ℕ) (p : Peers) → IsKeeper n i self.old p → IsKeeper n i self.new (acknowledged i peer seq p) }
+    // How far what is kept for a peer went out again, if it does so a batch at a time.
+    fn pending_of(&self, peer: u8) -> Option<Pending>
+        ensures pending { result ≡ slice_index_or self.now.pending.items peer None }
     {
-        if usize::from(peer) < self.resume.peers() {
-            self.resume.acked(peer, seq);
+        match self.pending.get(usize::from(peer)) {
+            Some(pending) => *pending,
+            None => None,
+        }
+    }
+
+    // So far it went out.
+    fn note_pending(&mut self, peer: u8, pending: Option<Pending>)
+        ensures rest { self.new ≡ record self.old { pending = self.new.pending } }
+        ensures pending { self.new.pending.items ≡ slice_set self.old.pending.items peer pending }
+    {
+        if let Some(old) = self.pending.get_mut(usize::from(peer)) {
+            *old = pending;
+        }
+    }
+
+    // The number up to which a batch goes out, if it has a frame.
+    fn reached(&self, peer: u8, after: Option<u64>, end: u64) -> Option<Pending>
+        requires { peer < length self.now.resume.lists }
+        ensures { result ≡ reached end (batch (between after end (kept_for self.now.resume.lists peer))) }
+    {
+        match self.resume.last_of_batch(peer, after, end) {
+            Some(last) => Some(Pending { last, end }),
+            None => None,
+        }
+    }
+
+    // A batch of what is kept for a peer is to go out again.
+    fn send_batch(&mut self, peer: u8, after: Option<u64>, end: u64) -> More
+        requires { peer < length self.old.resume.lists }
+        ensures batch { (w : Setting) (i : ℕ) (p : Peers) → IsKeeper w.mode.version w.numbers.n i self.old p
+            → let brings = sends_batch i peer after end p in
+            IsKeeper w.mode.version w.numbers.n i self.new brings.peers × IsMore w i result brings }
+    {
+        let pending = self.reached(peer, after, end);
+        self.note_pending(peer, pending);
+        More::Kept {
+            peer,
+            part: Part::Batch { after, last: end },
+        }
+    }
+
+    // Where the frame of this number was the last of a batch, the next one is to go out.
+    fn go_on(&mut self, peer: u8, seq: u64) -> More
+        requires { peer < length self.old.resume.lists }
+        ensures goes { (w : Setting) (i : ℕ) (p : Peers) → IsKeeper w.mode.version w.numbers.n i self.old p
+            → let brings = goes_on i peer seq (p.pending i peer) p in
+            IsKeeper w.mode.version w.numbers.n i self.new brings.peers × IsMore w i result brings }
+    {
+        match self.pending_of(peer) {
+            Some(pending) => {
+                if pending.last == seq {
+                    self.send_batch(peer, Some(seq), pending.end)
+                } else {
+                    More::Nothing
+                }
+            }
+            None => More::Nothing,
+        }
+    }
+
+    /// The frame of this number isn't kept for the peer any more. What is to go out to it then is answered.
+    pub(crate) fn acked(&mut self, peer: u8, seq: u64) -> More
+        ensures acked { (w : Setting) (i : ℕ) (p : Peers) → IsKeeper w.mode.version w.numbers.n i self.old p → peer < w.numbers.n
+            → let brings = acked_so w.mode.version i peer seq p in
+            IsKeeper w.mode.version w.numbers.n i self.new brings.peers × IsMore w i result brings }
+    {
+        if usize::from(peer) >= self.resume.peers() {
+            return More::Nothing;
+        }
+        self.resume.acked(peer, seq);
+        match self.version {
+            FrameVersion::One | FrameVersion::Two => More::Nothing,
+            FrameVersion::Three => self.go_on(peer, seq),
+        }
+    }
+
+    /// What goes out again to a peer that asks for it.
+    pub(crate) fn again(&self, peer: u8) -> More
+        ensures again { (w : Setting) (i : ℕ) (p : Peers) → IsKeeper w.mode.version w.numbers.n i self.now p → peer < w.numbers.n
+            → IsMore w i result (resends i peer (front_of w.mode.version (p.keeping i peer)) p) }
+    {
+        if usize::from(peer) >= self.resume.peers() {
+            return More::Nothing;
+        }
+        match self.version {
+            FrameVersion::One | FrameVersion::Two => More::Kept {
+                peer,
+                part: Part::All,
+            },
+            FrameVersion::Three => {
+                let last = self.newest(peer);
+                More::Kept {
+                    peer,
+                    part: Part::Batch { after: None, last },
+                }
+            }
+        }
+    }
+
+    // The number of the newest frame that is kept for a peer; 0 where there is none.
+    fn newest(&self, peer: u8) -> u64
+        requires { peer < length self.now.resume.lists }
+        ensures { result ≡ newest_in (kept_for self.now.resume.lists peer) }
+    {
+        self.resume.newest(peer).unwrap_or(0)
+    }
+
+    /// What goes out again to a peer that has a connection. To what is no peer nothing does.
+    pub(crate) fn connected(&mut self, peer: u8) -> More
+        ensures connected { (w : Setting) (i : ℕ) (p : Peers) → IsKeeper w.mode.version w.numbers.n i self.old p
+            → let brings = if nat_lt peer w.numbers.n then connected w.mode.version i peer p else nothing_more p in
+            IsKeeper w.mode.version w.numbers.n i self.new brings.peers × IsMore w i result brings }
+    {
+        if usize::from(peer) >= self.resume.peers() {
+            return More::Nothing;
+        }
+        match self.version {
+            FrameVersion::One | FrameVersion::Two => More::Kept {
+                peer,
+                part: Part::All,
+            },
+            FrameVersion::Three => {
+                let end = self.newest(peer);
+                self.send_batch(peer, None, end)
+            }
         }
     }
 
     /// The peer gets this mark, in place of the one that it may have.
     pub(crate) fn mark(&mut self, peer: u8, mark: Mark)
-        ensures resume { self.new.resume ≡ self.old.resume }
+        ensures rest { self.new ≡ record self.old { marks = self.new.marks } }
         ensures marks { self.new.marks.items ≡ slice_set self.old.marks.items peer (Some mark) }
     {
         if let Some(old) = self.marks.get_mut(usize::from(peer)) {
@@ -138,7 +286,7 @@ impl Keeper {
 
     /// The peer has no mark any more.
     pub(crate) fn unmark(&mut self, peer: u8)
-        ensures resume { self.new.resume ≡ self.old.resume }
+        ensures rest { self.new ≡ record self.old { marks = self.new.marks } }
         ensures marks { self.new.marks.items ≡ slice_set self.old.marks.items peer None }
     {
         if let Some(old) = self.marks.get_mut(usize::from(peer)) {
@@ -175,7 +323,7 @@ impl Keeper {
     ) -> Option<u8>
         ensures first { let m = meaning_of S.Service E.Broadcast C.Coin in
             (w : Setting) (es : List Event) (i : ℕ) (p : Peers) → IsWorld m.service m.cast w → IsReplica m w (states_of w es) i replica.now
-            → IsKeeper w.numbers.n i self.now p
+            → IsKeeper w.mode.version w.numbers.n i self.now p
             → MatchOption result (peers_due w es p i ≡ [])
             (λ j. (more : List APair) × (peers_due w es p i ≡ record { at = i; peer = j } ∷ more)) }
     {

@@ -1,8 +1,8 @@
 //! Events that a journal kept happen again.
-ghost use Rattle.std.specs.Prelude.{◌≡◌, ℕ, ◌≤◌, ◌<◌, length, map, OnOk, OnErr, MatchOption, All};
+ghost use Rattle.std.specs.Prelude.{◌≡◌, ℕ, ◌<◌, map, OnOk, OnErr, MatchOption};
 ghost use Rattle.std.specs.List.{Any};
-ghost use Rattle.keyed_channel.specs.Lengths.{head_length};
-ghost use Rattle.link_resume.specs.Lists.{room_for};
+ghost use Rattle.ritas_base.specs.declared.mode.FrameVersion.{FrameVersion};
+ghost use Rattle.link_resume.specs.Lists.{room_for, most_kept};
 ghost use Rattle.schedule_file.specs.Spelling.{IsAlone};
 ghost use Rattle.world_model.specs.World.{seen_answer};
 ghost use Rattle.node_loop.specs.Peers.{Peers, with_list};
@@ -19,6 +19,7 @@ use crate::output::Output;
 use crate::peers::keep;
 use crate::refusals::refusal_in;
 use crate::waiting::Waiters;
+use keyed_channel::LazyFrame;
 use layer_api::{Broadcast, Service};
 use link_resume::Resume;
 use replica::{OutFrame, Refusal};
@@ -59,8 +60,8 @@ fn wait_again(
 
 // The oldest that are kept for a peer are dropped until so many bytes fit behind the others. What is no peer is passed over.
 fn make_room(resume: &mut Resume, peer: u8, size: u64)
-    ensures room { (n i : ℕ) (p : Peers) → AreKept n i resume.old p.keeping
-        → AreKept n i resume.new (with_list i peer (room_for size (p.keeping i peer)) p).keeping }
+    ensures room { (v : FrameVersion) (n i : ℕ) (p : Peers) → AreKept v n i resume.old p.keeping
+        → AreKept v n i resume.new (with_list i peer (room_for (most_kept v) size (p.keeping i peer)) p).keeping }
 {
     if usize::from(peer) < resume.peers() {
         resume.make_room(peer, size);
@@ -68,26 +69,25 @@ fn make_room(resume: &mut Resume, peer: u8, size: u64)
 }
 
 // Keeps a frame of a replica for its peer; where it doesn't fit, the oldest are dropped first. The one error is want of memory.
-fn keep_newest(resume: &mut Resume, alloc: Global, frame: &OutFrame) -> Result<(), Mem>
-    ensures keeps { (n i k : ℕ) (p : Peers) → head_length ≤ length frame.now.bytes → AreKept n i resume.old p.keeping
-        → OnOk result (AreKept n i resume.new (keep_newest (made_as k i frame.now) p).keeping) }
-    ensures memory { (n i : ℕ) (p : Peers) → AreKept n i resume.old p.keeping
-        → OnErr result ((frame.now.to < n) × (head_length ≤ length frame.now.bytes)) }
+fn keep_newest(resume: &mut Resume, frame: &OutFrame<LazyFrame>) -> Result<(), Mem>
+    ensures keeps { (v : FrameVersion) (n i k : ℕ) (p : Peers) → AreKept v n i resume.old p.keeping
+        → OnOk result (AreKept v n i resume.new (keep_newest v (made_as k i frame.now) p).keeping) }
+    ensures memory { (v : FrameVersion) (n i : ℕ) (p : Peers) → AreKept v n i resume.old p.keeping
+        → OnErr result (frame.now.to < n) }
 {
-    let bytes = frame.bytes.as_slice();
-    make_room(resume, frame.to, bytes.len() as u64);
-    keep(resume, alloc, frame.to, bytes)
+    make_room(resume, frame.to, frame.bytes.len() as u64);
+    keep(resume, frame.to, &frame.bytes)
 }
 
 // Keeps these frames of a replica for their peers so, in order.
-fn all_newest(resume: &mut Resume, alloc: Global, frames: &[OutFrame]) -> Result<(), Mem>
-    ensures keeps { (n i k : ℕ) (p : Peers) → All (λ f. head_length ≤ length f.bytes) frames.now → AreKept n i resume.old p.keeping
-        → OnOk result (AreKept n i resume.new (all_newest (map (made_as k i) frames.now) p).keeping) }
-    ensures memory { (n i k : ℕ) (p : Peers) → All (λ f. head_length ≤ length f.bytes) frames.now
-        → AreKept n i resume.old p.keeping → OnErr result (Any (λ f. f.to < n) frames.now) }
+fn all_newest(resume: &mut Resume, frames: &[OutFrame<LazyFrame>]) -> Result<(), Mem>
+    ensures keeps { (v : FrameVersion) (n i k : ℕ) (p : Peers) → AreKept v n i resume.old p.keeping
+        → OnOk result (AreKept v n i resume.new (all_newest v (map (made_as k i) frames.now) p).keeping) }
+    ensures memory { (v : FrameVersion) (n i k : ℕ) (p : Peers) → AreKept v n i resume.old p.keeping
+        → OnErr result (Any (λ f. f.to < n) frames.now) }
 {
     for frame in frames {
-        keep_newest(resume, alloc, frame)?;
+        keep_newest(resume, frame)?;
     }
     Ok(())
 }
@@ -139,15 +139,14 @@ impl<S: Service, E: Broadcast, C: Coin + Drop> House<S, E, C> {
             (w : Setting) (es : List Event) (numbers : List ℕ) (ws : Waiting) (p : Peers) → HouseStands m w es numbers self.old ws p
             → IsServed w event.now
             → OnOk result (HouseStands m w (event.now ∷ es) numbers self.new (recalled w es event.now ws).waiting
-            (all_newest (frames_made_by w es (Some event.now)) p)) }
+            (all_newest w.mode.version (frames_made_by w es (Some event.now)) p)) }
     {
-        keyed_channel::sealed_length();
         self.happen(alloc, event, output)?;
         let Some(place) = self.place_of(output.at) else {
             return Ok(());
         };
         match self.keepers.get_mut(place) {
-            Some(keeper) => all_newest(&mut keeper.resume, alloc, output.frames.as_slice()),
+            Some(keeper) => all_newest(&mut keeper.resume, output.frames.as_slice()),
             None => Ok(()),
         }
     }

@@ -48,11 +48,14 @@ pub(crate) enum Next {
 /// group, and none joins one whose events have 65,536 bytes of text, or of which frames go out again. So what could go out never waits while the
 /// link does.
 ///
-/// Each frame of a call is kept for its peer, at most 8,388,608 bytes for one, and then goes out for the first time; where it would be
-/// more, it goes out and isn't kept. What is kept for a peer goes out again, the oldest first, where the peer has a connection again or
-/// asks for it, until it is acknowledged. A frame of a peer that opens is acknowledged right behind the frames of its call, unless it is to
-/// come again, being ahead of the replica or finding its peer's room full: then the peer is marked, and asked to send again once the
-/// replica has come further or holds fewer bytes for it (`specs/Resending.antt`). A note of a peer is no call.
+/// Each frame of a call is kept for its peer, and then goes out for the first time. In versions 1 and 2 of a
+/// session at most 8,388,608 bytes are kept for one peer; where it would be more, the frame goes out and
+/// isn't kept. What is kept for a peer goes out again, the oldest first, where the peer has a connection
+/// again or asks for it, until it is acknowledged; in version 3 it does so in batches, as the crate's page
+/// says. A frame of a peer that opens is acknowledged right behind the frames of its call, unless it is to
+/// come again, being ahead of the replica or finding its peer's room full: then the peer is marked, and asked
+/// to send again once the replica has come further or holds fewer bytes for it (`specs/Resending.antt`). A
+/// note of a peer is no call.
 ///
 /// It ends with `LinkFault` or `TapeFault` at the first call that fails, and with `Mem` where memory runs out, be it at a call of the link or
 /// of a replica, or for what is kept: no further call of the link or the tape is made then. Unless memory ran out, the replicas then
@@ -157,7 +160,7 @@ impl<S: Service, E: Broadcast, C: Coin + Drop> House<S, E, C> {
     {
         let mut output = group.output(alloc);
         self.begin(alloc, item, &mut output)?;
-        gather(alloc, self, group, output)
+        gather(self, group, output)
     }
 
     /// A peer of a replica is asked to send again, and that joins the group. The one error is want of memory.
@@ -175,7 +178,7 @@ impl<S: Service, E: Broadcast, C: Coin + Drop> House<S, E, C> {
     {
         let mut output = group.output(alloc);
         self.remind(pair, &mut output);
-        gather(alloc, self, group, output)
+        gather(self, group, output)
     }
 
     /// Takes a turn at a replica, and it joins the group. The one error is want of memory.
@@ -188,7 +191,7 @@ impl<S: Service, E: Broadcast, C: Coin + Drop> House<S, E, C> {
     {
         let mut output = group.output(alloc);
         self.turn(alloc, at, &mut output)?;
-        gather(alloc, self, group, output)
+        gather(self, group, output)
     }
 
     /// Takes an item of the link, and it joins the group. The one error is want of memory.
@@ -210,6 +213,6 @@ impl<S: Service, E: Broadcast, C: Coin + Drop> House<S, E, C> {
     {
         let mut output = group.output(alloc);
         self.take(alloc, item, &mut output)?;
-        gather(alloc, self, group, output)
+        gather(self, group, output)
     }
 }

@@ -6,7 +6,7 @@ use Rattle.outside.specs.declared.link.LinkFault.{LinkFault}
 use Rattle.node_loop.specs.declared.output.Reply.{Reply}
 use Rattle.node_loop.specs.Standing.{reply_by}
 use Rattle.outside.specs.LinkCalls.{each_act}
-use Rattle.outside.specs.LinkCallsLaws.{did_none, did_one, each_goes, each_fails}
+use Rattle.node_loop.proofs.Taking.{given_none, given_one, each_given, each_stops}
 use Rattle.node_loop.proofs.deliver.reply_all.Goals as goal
 
 -- the two ways to say what is replied
@@ -17,12 +17,12 @@ same : {at to : ℕ} {a b : List ℕ} → a ≡ b → Replies (record { at = at;
 same {at} {to} e = ap (λ (bytes : List ℕ). Replies (record { at = at; to = to; bytes = bytes })) e
 
 pub loop-given-init : goal.loop-given-init
-loop-given-init g c = did_none _ _ _
+loop-given-init g c = given_none _ _ _
 
 pub loop-given-preserved : goal.loop-given-preserved
 loop-given-preserved g c =
-    each_goes (λ r. Replies (reply_by c.args.at r)) c.args.replies.now c.loop-given.given-index c.given-item.result c.given-item.result _ _ _ _ _ _ _ c.loop-given-test.true c.given-item.is c.loop-given.invariant
-    (did_one _ _ _ _ _ _ _ _ (same c.as_slice.ensures.said) c.in_ok-reply.ensures.ok c.in_ok-reply.ensures.err c.in_ok-reply.ensures.cause c.in_ok-reply.ensures.count)
+    each_given (λ r. Replies (reply_by c.args.at r)) c.args.replies.now c.loop-given.given-index c.given-item.result c.given-item.result _ _ _ _ _ _ _ c.loop-given-test.true c.given-item.is c.loop-given.invariant
+    (given_one _ _ _ _ _ _ _ _ (same c.as_slice.ensures.said) c.in_ok-reply.ensures.ok c.in_ok-reply.ensures.err c.in_ok-reply.ensures.cause c.in_ok-reply.ensures.count)
 
 pub returns-in_err-reply : goal.returns-in_err-reply
 returns-in_err-reply g c = record {
@@ -30,8 +30,8 @@ returns-in_err-reply g c = record {
       let fault = err_from_is_err_and c.from_residual.result c.from_residual.ensures.1 in
       rw (fault.1 ∙ ap (λ (x : LinkFault). Err x) fault.2)
       (rw (as_two c.args.at c.args.replies.now)
-      (each_fails (λ r. Replies (reply_by c.args.at r)) c.args.replies.now c.loop-given.given-index c.given-item.result c.given-item.result _ _ _ _ _ _ _ _ c.loop-given-test.true c.given-item.is c.loop-given.invariant
-      (did_one _ _ _ _ _ _ _ _ (same c.as_slice.ensures.said) c.in_err-reply.ensures.ok c.in_err-reply.ensures.err c.in_err-reply.ensures.cause c.in_err-reply.ensures.count)));
+      (each_stops (λ r. Replies (reply_by c.args.at r)) c.args.replies.now c.loop-given.given-index c.given-item.result c.given-item.result _ _ _ _ _ _ _ _ c.loop-given-test.true c.given-item.is c.loop-given.invariant
+      (given_one _ _ _ _ _ _ _ _ (same c.as_slice.ensures.said) c.in_err-reply.ensures.ok c.in_err-reply.ensures.err c.in_err-reply.ensures.cause c.in_err-reply.ensures.count)));
 }
 
 pub returns : goal.returns

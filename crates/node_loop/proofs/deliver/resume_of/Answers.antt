@@ -5,10 +5,10 @@ use Rattle.node_loop.specs.declared.peers.Keeper.{Keeper}
 use Rattle.node_loop.proofs.deliver.resume_of.Goals as goal
 
 pub returns-in_default-clause-kept : goal.returns-in_default-clause-kept
-returns-in_default-clause-kept g c = λ w es numbers ws p stands fits. fits.1 (c.in_default.ensures.place w es numbers stands.here)
+returns-in_default-clause-kept g c = λ w es numbers ws p part stands fits. fits.1 (c.in_default.ensures.place w es numbers stands.here)
 
 pub returns-in_default-get-clause-kept : goal.returns-in_default-get-clause-kept
-returns-in_default-get-clause-kept g c = λ w es numbers ws p stands fits.
+returns-in_default-get-clause-kept g c = λ w es numbers ws p part stands fits.
     let number = (c.in-Some.ensures.place w es numbers stands.here).1 in
     let within = slice_get_within numbers c.in-Some.place c.args.at number in
     let past = c.in_default-get.ensures.lookup.3 in
@@ -17,7 +17,7 @@ returns-in_default-get-clause-kept g c = λ w es numbers ws p stands fits.
     absurd (omega (arith, within, past, many, same))
 
 pub returns-then-from-peers-clause-kept : goal.returns-then-from-peers-clause-kept
-returns-then-from-peers-clause-kept g c = λ w es numbers ws p stands fits.
+returns-then-from-peers-clause-kept g c = λ w es numbers ws p part stands fits.
     let number = (c.in-Some.ensures.place w es numbers stands.here).1 in
     let look = c.in-Some-get.ensures.lookup in
     let keepers = c.deref.result.now in
@@ -29,7 +29,7 @@ returns-then-from-peers-clause-kept g c = λ w es numbers ws p stands fits.
     absurd (omega (arith, below, many, c.if-from-peers.true, c.peers.ensures, c.from.ensures))
 
 pub returns-clause-kept : goal.returns-clause-kept
-returns-clause-kept g c = λ w es numbers ws p stands fits.
+returns-clause-kept g c = λ w es numbers ws p part stands fits.
     let number = (c.in-Some.ensures.place w es numbers stands.here).1 in
     let look = c.in-Some-get.ensures.lookup in
     let keepers = c.deref.result.now in

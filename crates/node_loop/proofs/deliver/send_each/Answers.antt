@@ -1,7 +1,7 @@
 use Rattle.std.proofs.Common.{sym, subst, take_all, Err, ap, ◌∙◌}
 use Rattle.std.proofs.lemmas.List.Elements.{All-from_recursion}
 use Rattle.std.proofs.lemmas.Result.{err_from_is_err_and}
-use Rattle.outside.specs.LinkCallsLaws.{did_none}
+use Rattle.node_loop.proofs.Taking.{given_none}
 use Rattle.outside.specs.declared.link.LinkFault.{LinkFault}
 use Rattle.node_loop.specs.declared.output.Output.{Output}
 use Rattle.node_loop.specs.Groups.{FitsPeers, acts_by}
@@ -9,7 +9,7 @@ use Rattle.node_loop.proofs.Grouping.{acts_go, acts_fail}
 use Rattle.node_loop.proofs.deliver.send_each.Goals as goal
 
 pub loop-output-init : goal.loop-output-init
-loop-output-init g c = λ w es numbers ws p stands fit. did_none _ _ _
+loop-output-init g c = λ w es numbers ws p stands fit. given_none _ _ _
 
 pub loop-output-preserved : goal.loop-output-preserved
 loop-output-preserved g c = λ w es numbers ws p stands fit.

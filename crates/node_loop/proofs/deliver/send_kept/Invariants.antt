@@ -7,4 +7,4 @@ use Rattle.node_loop.proofs.deliver.send_kept.Given as goal
 
 abbrev pub invariant-loop-kept : goal.invariant-loop-kept
 invariant-loop-kept g l =
-    LinkTook g.L.Link (each_act (kept_by l.at l.peer) (take (length l.yielded) (kept_for l.resume l.peer))) l.initial.link l.link (Ok tt)
+    LinkTook g.L.Link (each_act (kept_by l.at l.peer) (take (length l.yielded) (kept_for l.resume.lists l.peer))) l.initial.link l.link (Ok tt)

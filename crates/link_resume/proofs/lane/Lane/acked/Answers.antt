@@ -1,5 +1,5 @@
 use Rattle.std.specs.Prelude.{not, ◌==◌, Some, None}
-use Rattle.std.proofs.Common.{◌≡◌, ◌<◌, ◌≤◌, ◌∙◌, ◌^◌, arith, ap, ap₂, sym, length, List, ℕ, subst}
+use Rattle.std.proofs.Common.{◌≡◌, ◌∙◌, arith, ap, ap₂, sym, List, ℕ}
 use Rattle.std.specs.BTreeMap.{values, is_at}
 use Rattle.std.specs.Map.{values_of, lookup, remove_entry}
 use Rattle.std.specs.Ordering.{nat_cmp}
@@ -11,12 +11,12 @@ use Rattle.link_resume.proofs.lane.Lane.acked.Goals as goal
 pub overflow_sub-self : goal.overflow_sub-self
 overflow_sub-self c =
     let is : Some c.in-Some.kept ≡ lookup (is_at (nat_cmp c.from.result)) c.self.inside.kept.entries = c.in-Some.ensures.value in
-    omega (arith, ap length c.as_slice.ensures, no_more c.from.result c.in-Some.kept c.self.inside.kept.entries is, c.self.invariant.count)
+    omega (arith, c.len.ensures.is, no_more c.from.result c.in-Some.kept c.self.inside.kept.entries is, c.self.invariant.count)
 
 pub invariant_of-self : goal.invariant_of-self
 invariant_of-self c =
     let is : Some c.in-Some.kept ≡ lookup (is_at (nat_cmp c.from.result)) c.self.inside.kept.entries = c.in-Some.ensures.value in
-    rw (c.as_slice.ensures, c.in-Some.ensures.entries) (lane_less c.self.inside.bytes c.from.result c.in-Some.kept c.self.inside.by_number c.self.inside.kept.entries c.self.invariant is)
+    rw (c.len.ensures.is, c.in-Some.ensures.entries) (lane_less c.self.inside.bytes c.from.result c.in-Some.kept c.self.inside.by_number c.self.inside.kept.entries c.self.invariant is)
 
 pub bytes_in-self-inside-requires : goal.bytes_in-self-inside-requires
 bytes_in-self-inside-requires c =

@@ -30,9 +30,9 @@ returns-clause-comes g c = λ w es numbers ws p i stand one at_number clear.
     on_ok_weaker c.enter.result
     (λ x.
     let y = entered_at _ w (e ∷ es) numbers c.enter.new.self c.rows_at-count.result ws h.before c.enter.new.output.replies.items c.respond.new.output.replies.items c.respond.new.output.at at at_is x in
-    comes_at _ w es numbers c.enter.new.self c.enter.new.output (λ k. event_called w es k (Frame k bytes) ws) (λ k. opened_so w es k bytes (keep_all (frames_made_by w es (Some (Frame k bytes))) p) (opening (w.keys k) bytes)) at i (sym one)
+    comes_at _ w es numbers c.enter.new.self c.enter.new.output (λ k. event_called w es k (Frame k bytes) ws) (λ k. opened_so w es k bytes (keep_all w.mode.version (frames_made_by w es (Some (Frame k bytes))) p) (opening (w.keys k) bytes)) at i (sym one)
     (came _ w es numbers c.enter.new.self c.enter.new.output at c.rows_at-count.result e c.args.output.now.frames.items c.give.new.frames.items c.respond.new.output.replies.items ws h.before
-    (opened_so w es at bytes (keep_all (frames_made_by w es (Some e)) p) (opening (w.keys at) bytes))
+    (opened_so w es at bytes (keep_all w.mode.version (frames_made_by w es (Some e)) p) (opening (w.keys at) bytes))
     (c.rows_at-count.ensures.count w es numbers at stand.here number) clear.frames did.1 (ap (λ v. v.items) c.respond.ensures.same.3 ∙ clear.replies) right
     (same_more w at at c.enter.new.output.more c.respond.new.output.more _ refl c.enter.ensures.same.3 h.besides) h.kept y.0 y.1
     (c.enter.ensures.same.0 ∙ at_is) (c.enter.ensures.same.1 ∙ c.respond.ensures.same.1) (c.enter.ensures.same.4 ∙ c.respond.ensures.same.4 ∙ c.is_kept-output.ensures.kept ∙ ap (is_kept_so e) seen) (ap (λ v. v.items) (c.enter.ensures.same.2 ∙ c.respond.ensures.same.2))))

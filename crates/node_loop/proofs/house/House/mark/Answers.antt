@@ -14,8 +14,8 @@ returns-in-Some-get_mut g c = record {
       marked_so _ w es numbers _ ws at c.args.peer c.mark_of-mark.result (mark_at w es at c.args.peer) p mark
       (one_keeper _ w es numbers c.args.self.now _ ws p (with_mark at c.args.peer (Some c.mark_of-mark.result) p) c.args.place at c.in-Some-get_mut.keeper.now c.mark.new.self
       stand number c.in-Some-get_mut.ensures.item.3.0 c.in-Some-get_mut.ensures.value refl refl refl
-      (mark_there w.numbers.n at c.args.peer (Some c.mark_of-mark.result) c.in-Some-get_mut.keeper.now c.mark.new.self p keeper c.mark.ensures.resume c.mark.ensures.marks)
-      (λ i k other it. mark_elsewhere w.numbers.n i at c.args.peer (Some c.mark_of-mark.result) k p other it));
+      (mark_there w.mode.version w.numbers.n at c.args.peer (Some c.mark_of-mark.result) c.in-Some-get_mut.keeper.now c.mark.new.self p keeper c.mark.ensures.rest c.mark.ensures.marks)
+      (λ i k other it. mark_elsewhere w.mode.version w.numbers.n i at c.args.peer (Some c.mark_of-mark.result) k p other it));
 }
 
 pub returns-in_default : goal.returns-in_default

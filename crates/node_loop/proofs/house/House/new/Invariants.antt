@@ -10,4 +10,4 @@ abbrev pub invariant-loop-replica : goal.invariant-loop-replica
 invariant-loop-replica g l =
     (w : Setting) (es : List Event) (numbers : List ℕ)
     → AreHere (meaning_of g.S.Service g.E.Broadcast g.C.Coin) w es numbers l.replica-items
-    → AreFresh w.numbers.n l.replica-index l.keepers.items
+    → AreFresh w.mode.version w.numbers.n l.replica-index l.keepers.items

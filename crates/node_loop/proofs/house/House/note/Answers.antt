@@ -3,13 +3,12 @@ use Rattle.std.proofs.lemmas.Bool.{both_ways}
 use Rattle.keyed_channel.specs.KeyRow.{KeyRow}
 use Rattle.keyed_channel.specs.Notes.{noted}
 use Rattle.keyed_channel.specs.declared.note.Note.TheVariants.{Ack, Again}
-use Rattle.link_resume.specs.Lists.{all_but}
 use Rattle.world_model.specs.World.{rules_at, states_of}
-use Rattle.node_loop.specs.Peers.{acknowledged}
-use Rattle.node_loop.specs.Resending.{nothing_more, resends, noted_so}
+use Rattle.node_loop.specs.Resending.{nothing_more, resends, front_of, acked_so, noted_so}
 use Rattle.node_loop.proofs.Comings.{nothing_comes, only_more}
 use Rattle.node_loop.proofs.Heres.{as_here, nowhere, read_at}
-use Rattle.node_loop.proofs.Hearing.{keeper_at, list_elsewhere, one_keeper, comes_with}
+use Rattle.node_loop.proofs.Hearing.{keeper_at, acked_elsewhere, one_keeper, comes_with}
+use Rattle.node_loop.proofs.Wishing.{keeper_at as kept_at}
 use Rattle.node_loop.proofs.house.House.note.Goals as goal
 
 pub returns-in-Some-get_mut-clause-comes : goal.returns-in-Some-get_mut-clause-comes
@@ -17,38 +16,47 @@ returns-in-Some-get_mut-clause-comes g c = λ w es numbers ws p stand number cle
     let at = c.args.output.now.at in
     let from = c.in-Some-Ack.from in
     let seq = c.in-Some-Ack.seq in
+    let v = w.mode.version in
     let is = read_at _ w es numbers c.args.self.now.replicas.items c.deref.result.now c.args.place at c.in-Some.replica.now stand.here c.deref.ensures.value number c.in-Some.ensures.lookup.3.0 c.in-Some.ensures.lookup.1 in
     let keys = c.channel.ensures (rules_at w at) (w.keys at) (states_of w es at) is.stands in
     let said : noted (w.keys at) c.args.bytes.now ≡ Some (Ack from seq) =
     sym (c.open_note.ensures ∙ ap (λ (k : KeyRow). noted k c.args.bytes.now) keys) ∙ c.in-Some-Ack.is ∙ ap (λ x. Some x) c.in-Some-Ack.field-0-is in
+    let peer = ((c.noted_from_peer.ensures (w.keys at) c.args.bytes.now).0 from seq said).0 in
+    let below : from < w.numbers.n = omega (arith, peer, is.stands.many) in
     let keeper = keeper_at _ w es numbers c.args.self.now ws p c.args.place at c.in-Some-get_mut.keeper.now stand number c.in-Some-get_mut.ensures.item.3.0 c.in-Some-get_mut.ensures.value in
-    comes_with _ w es numbers _ c.args.output.now _ (nothing_more (acknowledged at from seq p)) (noted_so at p (noted (w.keys at) c.args.bytes.now)) (sym (ap (noted_so at p) said))
-    (nothing_comes _ w es numbers _ c.args.output.now ws (acknowledged at from seq p)
-    (one_keeper _ w es numbers c.args.self.now _ ws p (acknowledged at from seq p) c.args.place at c.in-Some-get_mut.keeper.now c.acked.new.self
-    stand number c.in-Some-get_mut.ensures.item.3.0 c.in-Some-get_mut.ensures.value refl refl refl
-    (c.acked.ensures.acked w.numbers.n at p keeper)
-    (λ i k other it. list_elsewhere w.numbers.n i at from (all_but seq (p.keeping at from)) k p other it)) clear)
+    let goes = c.acked-output.ensures.acked w at p keeper below in
+    comes_with _ w es numbers _ _ _ (acked_so v at from seq p) (noted_so v at p (noted (w.keys at) c.args.bytes.now)) (sym (ap (noted_so v at p) said))
+    (only_more _ w es numbers _ c.args.output.now _ ws (acked_so v at from seq p)
+    (one_keeper _ w es numbers c.args.self.now _ ws p (acked_so v at from seq p).peers c.args.place at c.in-Some-get_mut.keeper.now c.acked-output.new.self
+    stand number c.in-Some-get_mut.ensures.item.3.0 c.in-Some-get_mut.ensures.value refl refl refl goes.0
+    (λ i k other it. acked_elsewhere v w.numbers.n i at from seq k p other it)) clear goes.1
+    (λ faulty. absurd (both_ways (w.is_correct at) faulty is.correct)) refl refl refl refl refl)
 
-pub returns-in-Some-Again-clause-comes : goal.returns-in-Some-Again-clause-comes
-returns-in-Some-Again-clause-comes g c = λ w es numbers ws p stand number clear.
+pub returns-in-Some-get-clause-comes : goal.returns-in-Some-get-clause-comes
+returns-in-Some-get-clause-comes g c = λ w es numbers ws p stand number clear.
     let at = c.args.output.now.at in
     let from = c.in-Some-Again.from in
+    let v = w.mode.version in
     let is = read_at _ w es numbers c.args.self.now.replicas.items c.deref.result.now c.args.place at c.in-Some.replica.now stand.here c.deref.ensures.value number c.in-Some.ensures.lookup.3.0 c.in-Some.ensures.lookup.1 in
     let keys = c.channel.ensures (rules_at w at) (w.keys at) (states_of w es at) is.stands in
     let said : noted (w.keys at) c.args.bytes.now ≡ Some (Again from) =
     sym (c.open_note.ensures ∙ ap (λ (k : KeyRow). noted k c.args.bytes.now) keys) ∙ c.in-Some-Again.is ∙ ap (λ x. Some x) c.in-Some-Again.field-0-is in
     let peer = ((c.noted_from_peer.ensures (w.keys at) c.args.bytes.now).1 from said).0 in
     let below : from < w.numbers.n = omega (arith, peer, is.stands.many) in
-    comes_with _ w es numbers _ _ _ (resends at from p) (noted_so at p (noted (w.keys at) c.args.bytes.now)) (sym (ap (noted_so at p) said))
-    (only_more _ w es numbers _ c.args.output.now _ ws (resends at from p) stand clear (below, refl) (λ faulty. absurd (both_ways (w.is_correct at) faulty is.correct)) refl refl refl refl refl)
+    let keeper = kept_at _ w es numbers c.args.self.now ws p c.deref-in-Some-Again.result.now c.args.place at c.in-Some-get.keeper.now c.in-Some-get.keeper.now stand c.deref-in-Some-Again.ensures.value number c.in-Some-get.ensures.lookup.3.0 c.in-Some-get.ensures.lookup.1 in
+    let brings = resends at from (front_of v (p.keeping at from)) p in
+    comes_with _ w es numbers _ _ _ brings (noted_so v at p (noted (w.keys at) c.args.bytes.now)) (sym (ap (noted_so v at p) said))
+    (only_more _ w es numbers _ c.args.output.now _ ws brings stand clear (c.again-output.ensures.again w at p keeper below)
+    (λ faulty. absurd (both_ways (w.is_correct at) faulty is.correct)) refl refl refl refl refl)
 
 pub returns-in-None-clause-comes : goal.returns-in-None-clause-comes
 returns-in-None-clause-comes g c = λ w es numbers ws p stand number clear.
     let at = c.args.output.now.at in
+    let v = w.mode.version in
     let is = read_at _ w es numbers c.args.self.now.replicas.items c.deref.result.now c.args.place at c.in-Some.replica.now stand.here c.deref.ensures.value number c.in-Some.ensures.lookup.3.0 c.in-Some.ensures.lookup.1 in
     let keys = c.channel.ensures (rules_at w at) (w.keys at) (states_of w es at) is.stands in
     let said : noted (w.keys at) c.args.bytes.now ≡ None = sym (c.open_note.ensures ∙ ap (λ (k : KeyRow). noted k c.args.bytes.now) keys) ∙ c.in-None.is in
-    comes_with _ w es numbers _ c.args.output.now _ (nothing_more p) (noted_so at p (noted (w.keys at) c.args.bytes.now)) (sym (ap (noted_so at p) said))
+    comes_with _ w es numbers _ c.args.output.now _ (nothing_more p) (noted_so v at p (noted (w.keys at) c.args.bytes.now)) (sym (ap (noted_so v at p) said))
     (nothing_comes _ w es numbers _ c.args.output.now ws p stand clear)
 
 pub returns-in_default-clause-comes : goal.returns-in_default-clause-comes

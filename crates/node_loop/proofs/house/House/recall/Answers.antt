@@ -1,14 +1,12 @@
-use Rattle.std.proofs.Common.{◌≡◌, ◌≤◌, true, false, List, ◌∷◌, length, map, Some, refl, sym, subst, arith}
-use Rattle.std.specs.List.{All}
+use Rattle.std.proofs.Common.{◌≡◌, true, false, List, ◌∷◌, length, map, Some, refl, subst, arith}
 use Rattle.std.proofs.lemmas.Bool.{both_ways}
 use Rattle.std.proofs.lemmas.Option.{slice_get_read, slice_get_within}
 use Rattle.std.proofs.lemmas.Result.{on_ok_weaker}
-use Rattle.keyed_channel.specs.Lengths.{head_length}
 use Rattle.replica.specs.Out.{OutFrame}
 use Rattle.node_loop.specs.PeersStanding.{AreKept, made_as}
 use Rattle.node_loop.specs.Recovering.{recalled, all_newest}
 use Rattle.node_loop.specs.Serving.{frames_made_by}
-use Rattle.node_loop.proofs.KeptFrames.{have_numbers, house_put}
+use Rattle.node_loop.proofs.KeptFrames.{house_put}
 use Rattle.node_loop.proofs.Recalling.{newest, all_put_newest, same_newest}
 use Rattle.node_loop.proofs.house.House.recall.Goals as goal
 
@@ -31,12 +29,12 @@ returns-in-Some-get_mut g c = record {
       let number = (c.in-Some.ensures.place w (e ∷ es) numbers happened.0.here).1 in
       let keepers = house.keepers.items in
       let there = slice_get_read keepers (length keepers) c.in-Some.place old refl c.in-Some-get_mut.ensures.item.3.0 c.in-Some-get_mut.ensures.value in
-      let long = subst (λ (fs : List OutFrame). All (λ f. head_length ≤ length f.bytes) fs) (sym c.as_slice.ensures.value) (have_numbers c.sealed_length.ensures w es (Some e) at frames happened.1) in
+      let v = w.mode.version in
       on_ok_weaker c.all_newest.result
-      (λ kept. house_put newest _ w (e ∷ es) numbers house (recalled w es e ws).waiting p (all_newest (frames_made_by w es (Some e)) p) (all_newest (map (made_as 0 at) frames) p) 0 at c.in-Some.place frames old _
-      happened.0 number there (all_put_newest (map (made_as 0 at) frames) p) (same_newest w es (Some e) 0 at frames p happened.1)
-      (subst (λ (fs : List OutFrame). AreKept w.numbers.n at c.all_newest.new.resume (all_newest (map (made_as 0 at) fs) p).keeping) c.as_slice.ensures.value kept))
-      (c.all_newest.ensures.keeps w.numbers.n at 0 p long (happened.0.keepers c.in-Some.place at old number there).kept);
+      (λ kept. house_put (newest v) _ w (e ∷ es) numbers house (recalled w es e ws).waiting p (all_newest v (frames_made_by w es (Some e)) p) (all_newest v (map (made_as 0 at) frames) p) 0 at c.in-Some.place frames old _
+      happened.0 number there (all_put_newest v (map (made_as 0 at) frames) p) (same_newest w es (Some e) 0 at frames p happened.1)
+      (subst (λ (fs : List OutFrame). AreKept v w.numbers.n at c.all_newest.new.resume (all_newest v (map (made_as 0 at) fs) p).keeping) c.as_slice.ensures.value kept))
+      (c.all_newest.ensures.keeps v w.numbers.n at 0 p (happened.0.keepers c.in-Some.place at old number there).kept);
 }
 
 pub returns-in-None : goal.returns-in-None

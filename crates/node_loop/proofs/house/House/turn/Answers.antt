@@ -15,7 +15,7 @@ returns-in-Some-clause-comes g c = λ w es numbers ws p stand right.
     let placed = c.in-Some.ensures.place w es numbers stand.here in
     let at_is = c.clear.ensures.at in
     on_ok_weaker c.call.result
-    (comes_at _ w es numbers c.call.new.self c.call.new.output (λ k. event_called w es k (Turn c.args.at) ws) (λ k. nothing_more (keep_all (frames_made_by w es (Some (Turn c.args.at))) p)) c.clear.new.self.at c.args.at at_is)
+    (comes_at _ w es numbers c.call.new.self c.call.new.output (λ k. event_called w es k (Turn c.args.at) ws) (λ k. nothing_more (keep_all w.mode.version (frames_made_by w es (Some (Turn c.args.at))) p)) c.clear.new.self.at c.args.at at_is)
     (c.call.ensures.comes w es numbers ws p stand (placed.1 ∙ ap (λ x. Some x) (sym at_is)) (sym at_is) (cleared c.clear.new.self c.clear.ensures.none))
 
 pub returns-in-None-clause-comes : goal.returns-in-None-clause-comes

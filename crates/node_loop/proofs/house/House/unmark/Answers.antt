@@ -13,8 +13,8 @@ returns-in-Some g c = record {
       let keeper = keeper_at _ w es numbers c.args.self.now ws p ks c.args.place at old old stands refl number within c.in-Some.ensures.item.1 in
       keeper_set _ w es numbers c.args.self.now _ ws p (with_mark at c.args.peer None p) c.args.place at old c.unmark.new.self
       stands number (seen_there ks c.args.place old old within c.in-Some.ensures.item.1) stands.here stands.waiting refl
-      (marked_there w.numbers.n at c.args.peer None old c.unmark.new.self p keeper c.unmark.ensures.resume c.unmark.ensures.marks)
-      (λ i other apart is. marked_elsewhere w.numbers.n at i c.args.peer None other p apart is);
+      (marked_there w.mode.version w.numbers.n at c.args.peer None old c.unmark.new.self p keeper c.unmark.ensures.rest c.unmark.ensures.marks)
+      (λ i other apart is. marked_elsewhere w.mode.version w.numbers.n at i c.args.peer None other p apart is);
 }
 
 pub returns-in_default : goal.returns-in_default

@@ -14,5 +14,5 @@ invariant-loop-peer g l =
     (w : Setting) (es : List Event) (i : ℕ) (p : Peers)
     → IsWorld g.S.Service.rules g.E.Broadcast.rules w
     → IsReplica (meaning_of g.S.Service g.E.Broadcast g.C.Coin) w (states_of w es) i l.replica
-    → IsKeeper w.numbers.n i l.self p
+    → IsKeeper w.mode.version w.numbers.n i l.self p
     → (k : ℕ) → k < l.peer → is_due_at w es p i k ≡ false

@@ -1,0 +1,11 @@
+use Rattle.std.proofs.Common.{◌<◌, ◌≤◌, subst, sym, length}
+use Rattle.link_resume.specs.Lists.{Keepings, bytes_in}
+use Rattle.link_resume.proofs.Within.{less_within, room_has_less}
+use Rattle.link_resume.proofs.resume.Resume.make_room.Goals as goal
+
+pub invariant_of-self : goal.invariant_of-self
+invariant_of-self c =
+    less_within c.self.inside.limit c.self.inside.lanes.items c.args.peer c.index_mut.result.now c.make_room.new.self c.self.invariant
+    (subst (λ (k : Keepings). c.args.peer < length k.lists) (sym c.self.view_is) c.requires)
+    c.index_mut.ensures.value
+    (subst (λ (l : _). bytes_in l ≤ bytes_in c.index_mut.result.now) (sym c.make_room.ensures) (room_has_less c.self.inside.limit c.args.size c.index_mut.result.now))
