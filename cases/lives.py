@@ -7,9 +7,10 @@ from clients import check
 from loads import Counter, Load
 from peers import KIND_AT, PAYLOAD_AT, Pieces, body_of
 
-TURN = 3
 COLUMN, ENTRY = 6, 32
 MADE, RECORDS_AT = 1, 52
+# A group has at most so many rounds, and none joins one whose events have so many bytes: `MOST_ROUNDS` and `ENOUGH_BYTES` of `node_loop`.
+MOST_ROUNDS, ENOUGH_BYTES = 256, 65_536
 ASKED_AGAIN = 3
 
 
@@ -100,13 +101,19 @@ class Life:
         return verdicts.by_receiver(self.lines)
 
     def surely_made(self) -> dict:
-        """The frames of all its events but the last frame or input and the turns behind it, which needn't have come into the journal."""
-        last = next((place for place in reversed(range(len(self.events))) if self.events[place][0] != TURN), 0)
-        return verdicts.by_receiver([line for line in self.lines if line[0] < last])
+        """The frames that come of the events that the journal had after its end. No other frame of this life has gone out."""
+        return verdicts.frames_of(b"".join([self.header, *self.after, serving.END_MARK]), self.me) if self.has_begun else {}
 
-    def made_by_journal(self) -> dict:
-        """The frames that come of the events that the journal had after its end."""
-        return verdicts.frames_of(b"".join([self.header, *self.after, serving.END_MARK]), self.me)
+    def is_of_one_group(self, kept: dict) -> bool:
+        """Whether the first event of which the journal has not all frames, and those behind it, may be one group: the record has it then, but the
+        journal needn't, and nothing of it has gone out."""
+        given = dict.fromkeys(self.made(), 0)
+        for event, to, _ in self.lines:
+            given[to] += 1
+            if given[to] > len(kept.get(to, [])):
+                group = self.events[event:]
+                return len(group) <= MOST_ROUNDS and sum(map(len, group[:-1])) < ENOUGH_BYTES
+        return True
 
     def wrong(self) -> list:
         """What is wrong between a record and the journal. A life that was short may have written a front of what it recovered, or nothing."""
@@ -121,9 +128,11 @@ class Life:
         if not all(event in rest for event in self.after[len(self.before) :]):
             wrong.append("a journal has an event that isn't in the record, or in another order")
         if recovered == len(self.before):
-            kept = self.made_by_journal()
-            if not are_fronts(self.surely_made(), kept) or not are_fronts(kept, self.made()):
+            kept = self.surely_made()
+            if not are_fronts(kept, self.made()):
                 wrong.append("what a journal kept makes other frames than what the record has")
+            elif not self.is_of_one_group(kept):
+                wrong.append("a record has more than one group of events that the journal hasn't")
         elif self.before != self.after:
             wrong.append("a journal has new events before the record has the old ones")
         return wrong
