@@ -50,9 +50,9 @@ def acknowledgement(key: bytes, sender: int, receiver: int, number: int) -> byte
     return note(key, sender, receiver, ACK, number)
 
 
-def request_to_resend(key: bytes, sender: int, receiver: int) -> bytes:
-    """The note that asks for all that isn't acknowledged. It has no number of its own, so each is like every other."""
-    return note(key, sender, receiver, AGAIN, 0)
+def request_to_resend(key: bytes, sender: int, receiver: int, number: int = 0) -> bytes:
+    """The note that asks for what isn't acknowledged, in version 3 from a number on. None has a number of its own, so one may be like another."""
+    return note(key, sender, receiver, AGAIN, number)
 
 
 def vote(kind: int, init: bytes, version: int = 1) -> bytes:

@@ -13,8 +13,8 @@ def seq_of(text: bytes) -> int:
 class Sight:
     """What one node wrote for another one, over all its connections, in the order in which it came."""
 
-    def __init__(self, pair: tuple, key: bytes):
-        self.pair, self.key = pair, key
+    def __init__(self, pair: tuple, key: bytes, version: int):
+        self.pair, self.key, self.version = pair, key, version
         self.firsts, self.by_number, self.unacknowledged, self.wrong = [], {}, set(), []
         self.resends = self.acks = self.agains = self.bytes = 0
         self.back = self
@@ -39,13 +39,13 @@ class Sight:
             self.wrong.append(f"another frame of number {seq_of(text)}")
 
     def take_note(self, text: bytes) -> None:
-        """A note is whole and its sender's, and acknowledges only what the other one wrote before."""
+        """A note is whole and its sender's, and acknowledges only what the other one wrote before. In version 3 it asks from such a number on."""
         form, number = text[SEQ_AT : SEQ_AT + 1], int.from_bytes(text[SEQ_AT + 1 : NOTE_TAG_AT], "big")
         is_whole = len(text) == NOTE_BYTES and text[:SEQ_AT] == bytes([NOTE, *self.pair]) and tag(self.key, text[:NOTE_TAG_AT]) == text[NOTE_TAG_AT:]
         if is_whole and form == bytes([ACK]) and number in self.back.by_number:
             self.acks += 1
             self.back.unacknowledged.discard(number)
-        elif is_whole and form == bytes([AGAIN]) and number == 0:
+        elif is_whole and form == bytes([AGAIN]) and (number in self.back.by_number if self.version == 3 else number == 0):
             self.agains += 1
         else:
             self.wrong.append(f"the note {text.hex()} is wrong")
@@ -56,7 +56,7 @@ class Sights(dict):
 
     def __init__(self, session):
         pairs = [(i, j) for i in range(session.n) for j in range(session.n) if i != j]
-        super().__init__({(i, j): Sight((i, j), bytes.fromhex(session.rows[i])[32 * j : 32 * j + 32]) for i, j in pairs})
+        super().__init__({(i, j): Sight((i, j), bytes.fromhex(session.rows[i])[32 * j : 32 * j + 32], session.version) for i, j in pairs})
         for i, j in pairs:
             self[i, j].back = self[j, i]
 

@@ -64,7 +64,8 @@ def frames_of(record: bytes, me: int) -> dict:
 
 
 def of_frames(made: list, sight, is_whole: bool) -> list:
-    """What was seen is what the replica made: each frame to the byte, for the first time in order, and in the end all of them."""
+    """What was seen is what the replica made: each frame to the byte, and in the end all of them. In versions 1 and 2 they come for the first time in
+    order; in version 3 what is new goes out beside the batches of what is older."""
     where = "frames from {} to {}".format(*sight.pair)
     wrong = [f"{where}: {text}" for text in sight.wrong[:3]]
     if [seq_of(frame) for frame in made] != list(range(len(made))):
@@ -73,7 +74,7 @@ def of_frames(made: list, sight, is_whole: bool) -> list:
     foreign = [number for number, frame in zip(seen, sight.firsts) if number >= len(made) or made[number] != frame]
     if foreign:
         wrong.append(f"{where}: {len(foreign)} aren't those of replay frames, the first has number {foreign[0]}")
-    falls = [later for earlier, later in zip(seen, seen[1:]) if later < earlier]
+    falls = [later for earlier, later in zip(seen, seen[1:]) if later < earlier and sight.version < 3]
     if falls:
         wrong.append(f"{where}: number {falls[0]} comes for the first time behind a greater one")
     missing = sorted(set(range(len(made))) - set(seen)) if is_whole else []

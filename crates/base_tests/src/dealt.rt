@@ -72,6 +72,14 @@ pub(crate) fn known_again() -> &'static [u8] {
     AGAIN
 }
 
+const AGAIN_FROM: &[u8] =
+    b"\x4e\x03\x01\x02\x00\x00\x00\x00\x00\x00\x01\x02\x68\x7f\xe5\xcd\x97\x46\x3c\xdf\xd1\xcd\xac\x01\x93\x11\x63\x86\x33\xe4\xd3\x57\x20\x76\x06\x63\x98\x1e\x87\x14\xaa\x8b\x62\x94";
+
+/// The same from number 258 on.
+pub(crate) fn known_again_from() -> &'static [u8] {
+    AGAIN_FROM
+}
+
 /// A slot of binary consensus.
 pub(crate) const SLOT: Slot = Slot {
     class: 5,

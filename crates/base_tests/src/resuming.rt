@@ -60,10 +60,17 @@ fn waiting(rt: &impl Abort, resume: &Resume, peer: u8, at: usize) -> Option<u64>
     }
 }
 
-// The number of the last frame of a batch of what is kept for the one peer.
+// The number of the last frame of a batch of what is kept for the one peer, of at most 262,144
+// bytes.
 fn last_of_batch(rt: &impl Abort, resume: &Resume, after: Option<u64>, last: u64) -> Option<u64> {
     assert!(rt; resume.peers() == 1);
-    resume.last_of_batch(0, after, last)
+    resume.last_of_batch(0, after, last, 262_144)
+}
+
+// The same of at most so many bytes, in front of all that is kept.
+fn last_of_front(rt: &impl Abort, resume: &Resume, most: u64) -> Option<u64> {
+    assert!(rt; resume.peers() == 1);
+    resume.last_of_batch(0, None, 199_999, most)
 }
 
 // The longest frame.
@@ -143,4 +150,7 @@ fn many_go_out_again(rt: HostRuntime) {
     assert!(rt; last_of_batch(&rt, &resume, Some(3_275), 199_999) == Some(6_551));
     assert!(rt; last_of_batch(&rt, &resume, Some(3_275), 4_000) == Some(4_000));
     assert!(rt; last_of_batch(&rt, &resume, Some(199_999), 199_999).is_none());
+    assert!(rt; last_of_front(&rt, &resume, 0) == Some(0));
+    assert!(rt; last_of_front(&rt, &resume, 160) == Some(1));
+    assert!(rt; last_of_front(&rt, &resume, 239) == Some(1));
 }

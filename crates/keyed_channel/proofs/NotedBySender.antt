@@ -10,7 +10,7 @@ use Rattle.keyed_channel.specs.Hmac.{hmac_of}
 use Rattle.keyed_channel.specs.KeyRow.{KeyRow, key_with}
 use Rattle.keyed_channel.specs.Keyed.{dealt_for}
 use Rattle.keyed_channel.specs.Frames.{tagged_front, tag_of, sender_of, receiver_of, is_peer, is_tagged}
-use Rattle.keyed_channel.specs.Notes.{note_front, sealed_note, note_form, note_number, note_of, is_note, is_plain_note, noted}
+use Rattle.keyed_channel.specs.Notes.{note_front, sealed_note, again_note, may_ask_from, note_form, note_number, note_of, is_note, is_plain_note, noted}
 use Rattle.keyed_channel.specs.Laws.{NotedFromPeer, NotesSealed}
 use Rattle.keyed_channel.specs.declared.note.Note.{Note}
 use Rattle.keyed_channel.specs.declared.note.Note.TheVariants.{Ack, Again}
@@ -79,21 +79,21 @@ said_by true false said x h = cc
 said_by false b said x h = cc
 
 noted_by : (k : KeyRow) (bytes : List ℕ) (x : Note) → noted k bytes ≡ Some x
-    → (is_plain_note k bytes ≡ true) × (is_tagged k bytes ≡ true) × (note_of (sender_of bytes) (note_form bytes) (note_number bytes) ≡ Some x)
+    → (is_plain_note k bytes ≡ true) × (is_tagged k bytes ≡ true) × (note_of k.version (sender_of bytes) (note_form bytes) (note_number bytes) ≡ Some x)
 unfolding noted
 noted_by k bytes x h = said_by _ _ _ x h
 
-ack_by : (a b : Bool) (from number i seq : ℕ) → (if a then Some (Ack from number) else if b then Some (Again from) else None) ≡ Some (Ack i seq)
+ack_by : (a b : Bool) (from number i seq : ℕ) → (if a then Some (Ack from number) else if b then Some (Again from number) else None) ≡ Some (Ack i seq)
     → (a ≡ true) × (from ≡ i) × (number ≡ seq)
 ack_by true b from number i seq h = (refl, cc, cc)
 ack_by false true from number i seq h = cc
 ack_by false false from number i seq h = cc
 
-again_by : (a b : Bool) (from number i : ℕ) → (if a then Some (Ack from number) else if b then Some (Again from) else None) ≡ Some (Again i)
-    → (b ≡ true) × (from ≡ i)
-again_by true b from number i h = cc
-again_by false true from number i h = (refl, cc)
-again_by false false from number i h = cc
+again_by : (a b : Bool) (from number i seq : ℕ) → (if a then Some (Ack from number) else if b then Some (Again from number) else None) ≡ Some (Again i seq)
+    → (b ≡ true) × (from ≡ i) × (number ≡ seq)
+again_by true b from number i seq h = cc
+again_by false true from number i seq h = (refl, cc, cc)
+again_by false false from number i seq h = cc
 
 -- ---- the law
 
@@ -102,23 +102,34 @@ acked : (version : FrameVersion) (master : List ℕ) (session n j : ℕ) (bytes 
     → IsFromSender version master session n j bytes i 1 seq
 acked version master session n j bytes j_in small i seq h =
     let parts = noted_by (dealt_for version master session n j) bytes (Ack i seq) h in
-    let ack = ack_by (note_form bytes == 1) (note_form bytes == 2 && note_number bytes == 0) (sender_of bytes) (note_number bytes) i seq parts.2 in
+    let ack = ack_by (note_form bytes == 1) (note_form bytes == 2 && may_ask_from version (note_number bytes)) (sender_of bytes) (note_number bytes) i seq parts.2 in
     let form : note_form bytes ≡ 1 = eqb-true _ _ ack.0 in
     from_parts version master session n j bytes i 1 seq ack.1 form ack.2 (from_sender version master session n j bytes j_in small parts.0 parts.1)
 
 wished : (version : FrameVersion) (master : List ℕ) (session n j : ℕ) (bytes : List ℕ) → j < n → ((k : ℕ) → slice_index bytes k < 256)
-    → (i : ℕ) → noted (dealt_for version master session n j) bytes ≡ Some (Again i)
-    → IsFromSender version master session n j bytes i 2 0
-wished version master session n j bytes j_in small i h =
-    let parts = noted_by (dealt_for version master session n j) bytes (Again i) h in
-    let again = again_by (note_form bytes == 1) (note_form bytes == 2 && note_number bytes == 0) (sender_of bytes) (note_number bytes) i parts.2 in
-    let both = and_parts (note_form bytes == 2) (note_number bytes == 0) again.0 in
-    let form : note_form bytes ≡ 2 = eqb-true _ _ both.0 in
-    let number : note_number bytes ≡ 0 = eqb-true _ _ both.1 in
-    from_parts version master session n j bytes i 2 0 again.1 form number (from_sender version master session n j bytes j_in small parts.0 parts.1)
+    → (i seq : ℕ) → noted (dealt_for version master session n j) bytes ≡ Some (Again i seq)
+    → (may_ask_from version seq ≡ true) × IsFromSender version master session n j bytes i 2 seq
+wished version master session n j bytes j_in small i seq h =
+    let parts = noted_by (dealt_for version master session n j) bytes (Again i seq) h in
+    let again =
+    again_by (note_form bytes == 1) (note_form bytes == 2 && may_ask_from version (note_number bytes)) (sender_of bytes) (note_number bytes) i seq parts.2 in
+    let both = and_parts (note_form bytes == 2) (may_ask_from version (note_number bytes)) again.0 in
+    let form : note_form bytes ≡ 2 = eqb-true _ _ both.0 in (
+      subst (λ (x : ℕ). may_ask_from version x ≡ true) again.2 both.1,
+      from_parts version master session n j bytes i 2 seq again.1 form again.2 (from_sender version master session n j bytes j_in small parts.0 parts.1),
+    )
+
+-- with what it may ask for between its ends
+wished_by : (version : FrameVersion) (master : List ℕ) (session n j : ℕ) (bytes : List ℕ) → j < n → ((k : ℕ) → slice_index bytes k < 256)
+    → (i seq : ℕ) → noted (dealt_for version master session n j) bytes ≡ Some (Again i seq)
+    → (i < n) × (i ≢ j) × (may_ask_from version seq ≡ true) × (bytes ≡ again_note (dealt_for version master session n i) j seq)
+wished_by version master session n j bytes j_in small i seq h =
+    let by = wished version master session n j bytes j_in small i seq h in
+    (by.1.0, by.1.1, by.0, by.1.2)
 
 pub notes_sealed_holds : NotesSealed
-notes_sealed_holds version master session n j bytes j_in small = (acked version master session n j bytes j_in small, wished version master session n j bytes j_in small)
+notes_sealed_holds version master session n j bytes j_in small =
+    (acked version master session n j bytes j_in small, wished_by version master session n j bytes j_in small)
 
 -- ---- what is noted, whatever the keys
 
@@ -134,13 +145,15 @@ plain_peer k bytes plain =
 ack_from_peer : (k : KeyRow) (bytes : List ℕ) (from seq : ℕ) → noted k bytes ≡ Some (Ack from seq) → (from < k.n) × (from ≢ k.me)
 ack_from_peer k bytes from seq h =
     let parts = noted_by k bytes (Ack from seq) h in
-    let ack = ack_by (note_form bytes == 1) (note_form bytes == 2 && note_number bytes == 0) (sender_of bytes) (note_number bytes) from seq parts.2 in
+    let ack =
+    ack_by (note_form bytes == 1) (note_form bytes == 2 && may_ask_from k.version (note_number bytes)) (sender_of bytes) (note_number bytes) from seq parts.2 in
     subst (λ (x : ℕ). (x < k.n) × (x ≢ k.me)) ack.1 (plain_peer k bytes parts.0)
 
-again_from_peer : (k : KeyRow) (bytes : List ℕ) (from : ℕ) → noted k bytes ≡ Some (Again from) → (from < k.n) × (from ≢ k.me)
-again_from_peer k bytes from h =
-    let parts = noted_by k bytes (Again from) h in
-    let again = again_by (note_form bytes == 1) (note_form bytes == 2 && note_number bytes == 0) (sender_of bytes) (note_number bytes) from parts.2 in
+again_from_peer : (k : KeyRow) (bytes : List ℕ) (from seq : ℕ) → noted k bytes ≡ Some (Again from seq) → (from < k.n) × (from ≢ k.me)
+again_from_peer k bytes from seq h =
+    let parts = noted_by k bytes (Again from seq) h in
+    let again =
+    again_by (note_form bytes == 1) (note_form bytes == 2 && may_ask_from k.version (note_number bytes)) (sender_of bytes) (note_number bytes) from seq parts.2 in
     subst (λ (x : ℕ). (x < k.n) × (x ≢ k.me)) again.1 (plain_peer k bytes parts.0)
 
 pub noted_from_peer_holds : NotedFromPeer

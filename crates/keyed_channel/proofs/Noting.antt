@@ -17,6 +17,7 @@ use Rattle.keyed_channel.specs.Frames.{version_of, sender_of, receiver_of, tagge
 use Rattle.keyed_channel.specs.Notes.{note_front, sealed_note, note_form, note_number, note_of, is_note, is_plain_note, noted}
 use Rattle.keyed_channel.specs.Laws.{NotesOpen, NotesAreNoFrames, NoteHasVersion}
 use Rattle.keyed_channel.specs.declared.note.Note.{Note}
+use Rattle.keyed_channel.specs.declared.note.Note.TheVariants.{Again}
 use Rattle.keyed_channel.specs.declared.frame.OpenFault.TheVariants.{Short, Long, Version}
 use Rattle.keyed_channel.proofs.Opens.{five, opening_plain}
 use Rattle.keyed_channel.proofs.Dealt.{key_with-dealt, pair_key_swapped}
@@ -28,16 +29,16 @@ by_tests a b said plain tagged p t = ap₂ (λ (x y : Bool). if x && y then said
 
 pub note_plain : (k : KeyRow) (bytes : List ℕ) → is_plain_note k bytes ≡ false → noted k bytes ≡ None
 unfolding noted
-note_plain k bytes p = by_tests _ _ (note_of (sender_of bytes) (note_form bytes) (note_number bytes)) false (is_tagged k bytes) p refl
+note_plain k bytes p = by_tests _ _ (note_of k.version (sender_of bytes) (note_form bytes) (note_number bytes)) false (is_tagged k bytes) p refl
 
 pub note_untagged : (k : KeyRow) (bytes : List ℕ) → is_plain_note k bytes ≡ true → is_tagged k bytes ≡ false → noted k bytes ≡ None
 unfolding noted
-note_untagged k bytes p t = by_tests _ _ (note_of (sender_of bytes) (note_form bytes) (note_number bytes)) true false p t
+note_untagged k bytes p t = by_tests _ _ (note_of k.version (sender_of bytes) (note_form bytes) (note_number bytes)) true false p t
 
 pub note_tagged : (k : KeyRow) (bytes : List ℕ) → is_plain_note k bytes ≡ true → is_tagged k bytes ≡ true
-    → noted k bytes ≡ note_of (sender_of bytes) (note_form bytes) (note_number bytes)
+    → noted k bytes ≡ note_of k.version (sender_of bytes) (note_form bytes) (note_number bytes)
 unfolding noted
-note_tagged k bytes p t = by_tests _ _ (note_of (sender_of bytes) (note_form bytes) (note_number bytes)) true true p t
+note_tagged k bytes p t = by_tests _ _ (note_of k.version (sender_of bytes) (note_form bytes) (note_number bytes)) true true p t
 
 -- ---- no note is a frame
 
@@ -103,12 +104,14 @@ plain_there version master session n i j form number i_in ne =
     ap₂ (λ (x y : Bool). x && y) long (ap₂ (λ (x y : Bool). x && y) (eq-eqb j j refl) peer)
 
 said : (version : FrameVersion) (master : List ℕ) (session n i j form number : ℕ) → i < n → j < n → i ≢ j → number < 2 ^ 64
-    → noted (dealt_for version master session n j) (sealed_note (dealt_for version master session n i) j form number) ≡ note_of i form number
+    → noted (dealt_for version master session n j) (sealed_note (dealt_for version master session n i) j form number) ≡ note_of version i form number
 said version master session n i j form number i_in j_in ne small =
     let bytes = sealed_note (dealt_for version master session n i) j form number in
     note_tagged (dealt_for version master session n j) bytes (plain_there version master session n i j form number i_in ne) (tagged_there version master session n i j form number i_in j_in)
-    ∙ ap (λ (q : ℕ). note_of i form q) (from_be_bytes-to_be_bytes_8 number small)
+    ∙ ap (λ (q : ℕ). note_of version i form q) (from_be_bytes-to_be_bytes_8 number small)
 
 pub notes_say : NotesOpen
-notes_say version master session n i j seq i_in j_in ne small =
-    (said version master session n i j 1 seq i_in j_in ne small, said version master session n i j 2 0 i_in j_in ne (omega arith))
+notes_say version master session n i j seq i_in j_in ne small = (
+  said version master session n i j 1 seq i_in j_in ne small,
+  λ asks. said version master session n i j 2 seq i_in j_in ne small ∙ ap (λ (b : Bool). if b then Some (Again i seq) else None) asks,
+)

@@ -7,7 +7,7 @@ use Rattle.keyed_channel.specs.KeyRow.{KeyRow}
 use Rattle.keyed_channel.specs.Keyed.{pair_key, dealt, dealt_for, keyed_entry, tags_of}
 use Rattle.keyed_channel.specs.Frames.{sealed, receiver_of, opening_parts, opening, Opening}
 use Rattle.keyed_channel.specs.declared.frame.OpenFault.TheVariants.{Short, Long, Version}
-use Rattle.keyed_channel.specs.Notes.{sealed_note, ack_note, again_note, is_note, noted}
+use Rattle.keyed_channel.specs.Notes.{sealed_note, ack_note, again_note, may_ask_from, is_note, noted}
 use Rattle.keyed_channel.specs.declared.note.Note.TheVariants.{Ack, Again}
 
 -- what i seals for j opens at j, where the frame is as long as one that opens
@@ -67,21 +67,22 @@ EntriesAgree = (master : List ℕ) (session n i j : ℕ) (s : Slot) (echoer veri
 abbrev pub NotesOpen : Type 0
 NotesOpen = (version : FrameVersion) (master : List ℕ) (session n i j seq : ℕ) → i < n → j < n → i ≢ j → seq < 2 ^ 64
     → (noted (dealt_for version master session n j) (ack_note (dealt_for version master session n i) j seq) ≡ Some (Ack i seq))
-    × (noted (dealt_for version master session n j) (again_note (dealt_for version master session n i) j) ≡ Some (Again i))
+    × (may_ask_from version seq ≡ true
+    → noted (dealt_for version master session n j) (again_note (dealt_for version master session n i) j seq) ≡ Some (Again i seq))
 
 -- what is noted at j is what its sender notes, another replica
 abbrev pub NotesSealed : Type 0
 NotesSealed = (version : FrameVersion) (master : List ℕ) (session n j : ℕ) (bytes : List ℕ) → j < n → ((k : ℕ) → slice_index bytes k < 256)
     → ((i seq : ℕ) → noted (dealt_for version master session n j) bytes ≡ Some (Ack i seq)
     → (i < n) × (i ≢ j) × (bytes ≡ ack_note (dealt_for version master session n i) j seq))
-    × ((i : ℕ) → noted (dealt_for version master session n j) bytes ≡ Some (Again i)
-    → (i < n) × (i ≢ j) × (bytes ≡ again_note (dealt_for version master session n i) j))
+    × ((i seq : ℕ) → noted (dealt_for version master session n j) bytes ≡ Some (Again i seq)
+    → (i < n) × (i ≢ j) × (may_ask_from version seq ≡ true) × (bytes ≡ again_note (dealt_for version master session n i) j seq))
 
 -- whatever is noted is of another replica
 abbrev pub NotedFromPeer : Type 0
 NotedFromPeer = (k : KeyRow) (bytes : List ℕ)
     → ((from seq : ℕ) → noted k bytes ≡ Some (Ack from seq) → (from < k.n) × (from ≢ k.me))
-    × ((from : ℕ) → noted k bytes ≡ Some (Again from) → (from < k.n) × (from ≢ k.me))
+    × ((from seq : ℕ) → noted k bytes ≡ Some (Again from seq) → (from < k.n) × (from ≢ k.me))
 
 -- what begins as a note doesn't open as a frame: it is too short or too long for one, or its version is wrong
 abbrev pub NotesAreNoFrames : Type 0

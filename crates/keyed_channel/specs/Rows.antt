@@ -5,7 +5,7 @@ use Rattle.keyed_channel.specs.Lengths.{least_frame}
 use Rattle.ritas_base.specs.Bytes.{filled_row}
 use Rattle.keyed_channel.specs.KeyRow.{KeyRow}
 use Rattle.keyed_channel.specs.Keyed.{pair_string, coin_key_string, entry_string, coin_string, other_of_two}
-use Rattle.ritas_base.specs.declared.mode.FrameVersion.TheVariants.{One, Two}
+use Rattle.ritas_base.specs.declared.mode.FrameVersion.TheVariants.{One, Two, Three}
 use Rattle.keyed_channel.specs.Frames.{frame_front, opening}
 use Rattle.keyed_channel.specs.Notes.{note_front, note_of}
 use Rattle.keyed_channel.specs.declared.note.Note.TheVariants.{Ack, Again}
@@ -70,9 +70,12 @@ opening_rows_of_two = (refl, refl, refl)
 note_row : note_front 3 1 1 258 ≡ 0x4e ∷ 3 ∷ 1 ∷ 1 ∷ 0 ∷ 0 ∷ 0 ∷ 0 ∷ 0 ∷ 0 ∷ 1 ∷ 2 ∷ []
 note_row = refl
 
--- form 1 says its number, form 2 has number 0, and there is no other
-note_rows : (note_of 3 1 258 ≡ Some (Ack 3 258)) × (note_of 3 2 0 ≡ Some (Again 3)) × (note_of 3 2 1 ≡ None) × (note_of 3 0 0 ≡ None) × (note_of 3 3 0 ≡ None)
-note_rows = (refl, refl, refl, refl, refl)
+-- form 1 says its number, form 2 has number 0 in versions 1 and 2 and any in version 3, and there is no other form
+note_rows : (note_of One 3 1 258 ≡ Some (Ack 3 258)) × (note_of One 3 2 0 ≡ Some (Again 3 0)) × (note_of One 3 2 1 ≡ None)
+    × (note_of Two 3 2 0 ≡ Some (Again 3 0)) × (note_of Two 3 2 1 ≡ None)
+    × (note_of Three 3 1 258 ≡ Some (Ack 3 258)) × (note_of Three 3 2 0 ≡ Some (Again 3 0)) × (note_of Three 3 2 258 ≡ Some (Again 3 258))
+    × (note_of One 3 0 0 ≡ None) × (note_of One 3 3 0 ≡ None) × (note_of Three 3 0 0 ≡ None) × (note_of Three 3 3 0 ≡ None)
+note_rows = (refl, refl, refl, refl, refl, refl, refl, refl, refl, refl, refl, refl)
 
 -- what begins as a note doesn't open as a frame, and without its tag it is no note
 note_opening_row : opening keys_row (0x4e ∷ 0 ∷ 1 ∷ 1 ∷ replicate 40 0) ≡ Err Version

@@ -160,12 +160,12 @@ impl Channel {
         self.seal_note(to, 1, seq)
     }
 
-    /// The note that frames are to be sent again, as `seal_again` makes it. It takes no memory.
-    pub fn seal_again(&self, to: u8) -> [u8; NOTE_LEN]
+    /// The note that frames are to be sent again from a number on, as `seal_again` makes it. It takes no memory.
+    pub fn seal_again(&self, to: u8, seq: u64) -> [u8; NOTE_LEN]
         requires { to < self.now.n }
-        ensures { result ≡ again_note self.now to }
+        ensures { result ≡ again_note self.now to seq }
     {
-        self.seal_note(to, 2, 0)
+        self.seal_note(to, 2, seq)
     }
 
     /// What a note says, as `open_note` answers it. It takes no memory.
@@ -180,7 +180,7 @@ impl Channel {
         if right.as_slice() != tag {
             return None;
         }
-        note_of(bytes)
+        note_of(self.keys.version(), bytes)
     }
 }
 

@@ -3,11 +3,12 @@
 ghost use Rattle.std.specs.Prelude.{◌≡◌, ◌<◌, ◌≤◌, ◌++◌, true, length};
 ghost use Rattle.keyed_channel.specs.Lengths.{note_length};
 ghost use Rattle.keyed_channel.specs.Frames.{sender_of};
-ghost use Rattle.keyed_channel.specs.Notes.{note_front, sealed_note, ack_note, again_note, note_form, note_number, note_of, is_note, is_plain_note, noted};
+ghost use Rattle.keyed_channel.specs.Notes.{note_front, sealed_note, ack_note, again_note, may_ask_from, note_form, note_number, note_of, is_note, is_plain_note, noted};
 
 use crate::keys::Keys;
 use crate::lengths::{NOTE_FRONT_LEN, NOTE_LEN, TAG_LEN};
 use crate::tags::hmac;
+use ritas_base::FrameVersion;
 
 // The first byte of a note.
 const NOTE: u8 = 0x4e;
@@ -21,8 +22,8 @@ const AGAIN: u8 = 2;
 pub enum Note {
     /// The frame with this number was taken.
     Ack { from: u8, seq: u64 },
-    /// The frames that weren't acknowledged are to be sent again.
-    Again { from: u8 },
+    /// The frames that weren't acknowledged are to be sent again, from this number on. In versions 1 and 2 it is 0.
+    Again { from: u8, seq: u64 },
 }
 
 // The note without its tag.
@@ -66,10 +67,20 @@ pub(crate) fn is_plain_note(keys: &Keys, bytes: &[u8]) -> bool
         && bytes[1] != keys.me()
 }
 
-// What the parts of a note say.
-pub(crate) fn note_of(bytes: &[u8]) -> Option<Note>
+// Whether a replica may ask for frames from this number on in a session of a version.
+fn may_ask_from(version: FrameVersion, seq: u64) -> bool
+    ensures { result ≡ may_ask_from version seq }
+{
+    match version {
+        FrameVersion::One | FrameVersion::Two => seq == 0,
+        FrameVersion::Three => true,
+    }
+}
+
+// What the parts of a note say in a session of a version.
+pub(crate) fn note_of(version: FrameVersion, bytes: &[u8]) -> Option<Note>
     requires { length bytes.now ≡ note_length }
-    ensures { result ≡ note_of (sender_of bytes.now) (note_form bytes.now) (note_number bytes.now) }
+    ensures { result ≡ note_of version (sender_of bytes.now) (note_form bytes.now) (note_number bytes.now) }
 {
     let mut number = [0; 8];
     number.copy_from_slice(&bytes[4..NOTE_FRONT_LEN]);
@@ -77,8 +88,8 @@ pub(crate) fn note_of(bytes: &[u8]) -> Option<Note>
     let from = bytes[1];
     if bytes[3] == ACK {
         Some(Note::Ack { from, seq })
-    } else if bytes[3] == AGAIN && seq == 0 {
-        Some(Note::Again { from })
+    } else if bytes[3] == AGAIN && may_ask_from(version, seq) {
+        Some(Note::Again { from, seq })
     } else {
         None
     }
@@ -104,17 +115,17 @@ pub fn seal_ack(keys: &Keys, to: u8, seq: u64) -> [u8; NOTE_LEN]
     seal_note(keys, to, ACK, seq)
 }
 
-/// The note for a replica that it is to send its frames again: as that of `seal_ack`, with form 2 and number 0. It takes no
-/// memory.
-pub fn seal_again(keys: &Keys, to: u8) -> [u8; NOTE_LEN]
+/// The note for a replica that it is to send its frames again from this number on: as that of `seal_ack`, with form 2. In
+/// versions 1 and 2 it says something with number 0 alone. It takes no memory.
+pub fn seal_again(keys: &Keys, to: u8, seq: u64) -> [u8; NOTE_LEN]
     requires { to < keys.now.n }
-    ensures { result ≡ again_note keys.now to }
+    ensures { result ≡ again_note keys.now to seq }
 {
-    seal_note(keys, to, AGAIN, 0)
+    seal_note(keys, to, AGAIN, seq)
 }
 
 /// What a note says: `None` exactly where the bytes aren't a note for this replica, from another one below n, with a right
-/// tag, of form 1, or of form 2 with number 0. It takes no memory.
+/// tag, of form 1, or of form 2, in versions 1 and 2 with number 0. It takes no memory.
 pub fn open_note(keys: &Keys, bytes: &[u8]) -> Option<Note>
     ensures { result ≡ noted keys.now bytes.now }
 {
@@ -126,5 +137,5 @@ pub fn open_note(keys: &Keys, bytes: &[u8]) -> Option<Note>
     if wanted.as_slice() != tag {
         return None;
     }
-    note_of(bytes)
+    note_of(keys.version(), bytes)
 }

@@ -82,29 +82,29 @@ by_any after last es = others_fail (is_between after last) (λ e. range_contains
 -- ---- the next of a batch
 
 -- a frame with another number isn't of it
-pub next_other : (given : Option ℕ) (after : Option ℕ) (last : ℕ) (x : ℕ × Kept) (xs all : List (ℕ × Kept)) → all ≡ x ∷ xs → is_between after last x.1 ≡ false
-    → batch_behind given (between after last (values_of xs)) ≡ batch_behind given (between after last (values_of all))
-next_other given after last x xs all is fails =
-    rw is (sym (ap (batch_behind given) (cond-false (is_between after last x.1) (x.1 ∷ between after last (values_of xs)) (between after last (values_of xs)) fails)))
+pub next_other : (most : ℕ) (given : Option ℕ) (after : Option ℕ) (last : ℕ) (x : ℕ × Kept) (xs all : List (ℕ × Kept)) → all ≡ x ∷ xs → is_between after last x.1 ≡ false
+    → batch_behind most given (between after last (values_of xs)) ≡ batch_behind most given (between after last (values_of all))
+next_other most given after last x xs all is fails =
+    rw is (sym (ap (batch_behind most given) (cond-false (is_between after last x.1) (x.1 ∷ between after last (values_of xs)) (between after last (values_of xs)) fails)))
 
 -- one that doesn't join is the end of it
-pub next_full : (given after : Option ℕ) (last size : ℕ) (x : ℕ × Kept) (xs all : List (ℕ × Kept)) → all ≡ x ∷ xs → is_between after last x.1 ≡ true
-    → size ≡ length x.1.frame → joins_batch given size ≡ false → batch_behind given (between after last (values_of all)) ≡ []
-next_full given after last size x xs all is passes long full =
+pub next_full : (most : ℕ) (given after : Option ℕ) (last size : ℕ) (x : ℕ × Kept) (xs all : List (ℕ × Kept)) → all ≡ x ∷ xs → is_between after last x.1 ≡ true
+    → size ≡ length x.1.frame → joins_batch most given size ≡ false → batch_behind most given (between after last (values_of all)) ≡ []
+next_full most given after last size x xs all is passes long full =
     let rest = between after last (values_of xs) in
-    rw is (ap (batch_behind given) (cond-true (is_between after last x.1) (x.1 ∷ rest) rest passes)
-    ∙ cond-false (joins_batch given (length x.1.frame)) (x.1 ∷ batch_behind (Some (bytes_with given (length x.1.frame))) rest) []
-    (ap (joins_batch given) (sym long) ∙ full))
+    rw is (ap (batch_behind most given) (cond-true (is_between after last x.1) (x.1 ∷ rest) rest passes)
+    ∙ cond-false (joins_batch most given (length x.1.frame)) (x.1 ∷ batch_behind most (Some (bytes_with given (length x.1.frame))) rest) []
+    (ap (joins_batch most given) (sym long) ∙ full))
 
 -- and one that does is given
-pub next_given : (given after : Option ℕ) (last size bytes : ℕ) (x : ℕ × Kept) (xs all : List (ℕ × Kept)) → all ≡ x ∷ xs → is_between after last x.1 ≡ true
-    → size ≡ length x.1.frame → joins_batch given size ≡ true → bytes ≡ bytes_with given size
-    → batch_behind given (between after last (values_of all)) ≡ x.1 ∷ batch_behind (Some bytes) (between after last (values_of xs))
-next_given given after last size bytes x xs all is passes long joins sum =
+pub next_given : (most : ℕ) (given after : Option ℕ) (last size bytes : ℕ) (x : ℕ × Kept) (xs all : List (ℕ × Kept)) → all ≡ x ∷ xs → is_between after last x.1 ≡ true
+    → size ≡ length x.1.frame → joins_batch most given size ≡ true → bytes ≡ bytes_with given size
+    → batch_behind most given (between after last (values_of all)) ≡ x.1 ∷ batch_behind most (Some bytes) (between after last (values_of xs))
+next_given most given after last size bytes x xs all is passes long joins sum =
     let rest = between after last (values_of xs) in
-    rw is (ap (batch_behind given) (cond-true (is_between after last x.1) (x.1 ∷ rest) rest passes)
-    ∙ (cond-true (joins_batch given (length x.1.frame)) (x.1 ∷ batch_behind (Some (bytes_with given (length x.1.frame))) rest) [] (ap (joins_batch given) (sym long) ∙ joins)
-    ∙ ap (λ (n : ℕ). x.1 ∷ batch_behind (Some n) rest) (sym (sum ∙ ap (bytes_with given) long))))
+    rw is (ap (batch_behind most given) (cond-true (is_between after last x.1) (x.1 ∷ rest) rest passes)
+    ∙ (cond-true (joins_batch most given (length x.1.frame)) (x.1 ∷ batch_behind most (Some (bytes_with given (length x.1.frame))) rest) [] (ap (joins_batch most given) (sym long) ∙ joins)
+    ∙ ap (λ (n : ℕ). x.1 ∷ batch_behind most (Some n) rest) (sym (sum ∙ ap (bytes_with given) long))))
 
 -- ---- the last of a batch
 

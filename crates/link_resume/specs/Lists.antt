@@ -87,14 +87,10 @@ is_between after last k = is_behind after k && nat_le k.seq last
 abbrev pub between : Option ℕ → ℕ → List Kept → List Kept
 between after last kept = filter (is_between after last) kept
 
--- a batch has at most so many bytes, or one frame
-abbrev pub most_batch_bytes : ℕ
-most_batch_bytes = 262144
-
--- whether a frame of so many bytes is in a batch behind others that have so many, if there are any
-abbrev pub joins_batch : Option ℕ → ℕ → Bool
-joins_batch None size = true
-joins_batch (Some bytes) size = nat_le (bytes + size) most_batch_bytes
+-- whether a frame of so many bytes is in a batch behind others that have so many, if there are any, where it may have a most of bytes
+abbrev pub joins_batch : ℕ → Option ℕ → ℕ → Bool
+joins_batch most None size = true
+joins_batch most (Some bytes) size = nat_le (bytes + size) most
 
 -- how many they have with it
 abbrev pub bytes_with : Option ℕ → ℕ → ℕ
@@ -102,14 +98,14 @@ bytes_with None size = size
 bytes_with (Some bytes) size = bytes + size
 
 -- as many of the first ones as are in a batch behind others
-abbrev pub batch_behind : Option ℕ → List Kept → List Kept
-batch_behind given [] = []
-batch_behind given (k ∷ ks) =
-    if joins_batch given (length k.frame) then k ∷ batch_behind (Some (bytes_with given (length k.frame))) ks else []
+abbrev pub batch_behind : ℕ → Option ℕ → List Kept → List Kept
+batch_behind most given [] = []
+batch_behind most given (k ∷ ks) =
+    if joins_batch most given (length k.frame) then k ∷ batch_behind most (Some (bytes_with given (length k.frame))) ks else []
 
--- as many of the first ones as have at most 262,144 bytes together, and at least one
-abbrev pub batch : List Kept → List Kept
-batch kept = batch_behind None kept
+-- as many of the first ones as have at most so many bytes together, and at least one
+abbrev pub batch : ℕ → List Kept → List Kept
+batch most kept = batch_behind most None kept
 
 -- the number of the last one
 abbrev pub last_seq : ℕ → List Kept → ℕ

@@ -36,14 +36,18 @@ between_rows : (between None 4 (kept ∷ newer ∷ []) ≡ kept ∷ []) × (betw
     × (between (Some 5) 9 (kept ∷ newer ∷ []) ≡ [])
 between_rows = (refl, refl, refl)
 
--- the first frame is in a batch however long it is, and another where they have 262,144 bytes together and no more
-joins_rows : (joins_batch None 9999999 ≡ true) × (joins_batch (Some 262000) 144 ≡ true) × (joins_batch (Some 262000) 145 ≡ false)
+-- the first frame is in a batch however long it is, and another where they have the most of bytes together and no more
+joins_rows : (joins_batch 16384 None 9999999 ≡ true) × (joins_batch 16384 (Some 16000) 384 ≡ true) × (joins_batch 16384 (Some 16000) 385 ≡ false)
 joins_rows = (refl, refl, refl)
 
--- so all of a few short ones are a batch, and of these, which stand behind 262,140 bytes, the first one
-batch_rows : (batch (kept ∷ newer ∷ []) ≡ kept ∷ newer ∷ []) × (batch_behind (Some 262140) (kept ∷ newer ∷ []) ≡ kept ∷ [])
-    × (batch_behind (Some 262142) (kept ∷ newer ∷ []) ≡ [])
+-- so all of a few short ones are a batch, and of these, which stand behind 16,380 bytes, the first one
+batch_rows : (batch 16384 (kept ∷ newer ∷ []) ≡ kept ∷ newer ∷ []) × (batch_behind 16384 (Some 16380) (kept ∷ newer ∷ []) ≡ kept ∷ [])
+    × (batch_behind 16384 (Some 16382) (kept ∷ newer ∷ []) ≡ [])
 batch_rows = (refl, refl, refl)
+
+-- with no byte the batch is the first frame, if there is one
+single_rows : (batch 0 (kept ∷ newer ∷ []) ≡ kept ∷ []) × (batch 0 [] ≡ [])
+single_rows = (refl, refl)
 
 last_rows : (last_number [] ≡ None) × (last_number (kept ∷ newer ∷ []) ≡ Some 5)
 last_rows = (refl, refl)

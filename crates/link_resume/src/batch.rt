@@ -8,9 +8,6 @@ use crate::kept::Kept;
 use std::collections::btree_map::Range;
 use std::marker::Model;
 
-/// The most bytes of a batch, unless it has one frame.
-const MOST_BYTES: u64 = 262_144;
-
 /// A batch that is being given: frames that are kept for a peer, the oldest first. Contracts see it as those that are still to come.
 #[derive(Drop)]
 pub struct Batch<'a> {
@@ -18,7 +15,9 @@ pub struct Batch<'a> {
     // Its frames have greater numbers than this one, if there is one, and none greater than the last one.
     after: Option<u64>,
     last: u64,
-    // How many bytes those have that were given.
+    // The most bytes that it may have, unless it has one frame.
+    most: u64,
+    // How many those have that were given.
     given: Option<u64>,
 }
 
@@ -30,7 +29,7 @@ impl<'a> Model for Batch<'a> {
 
     ghost Value = { List Kept };
 
-    ghost view = { λ b. batch_behind b.given (between b.after b.last (values_of b.kept)) };
+    ghost view = { λ b. batch_behind b.most b.given (between b.after b.last (values_of b.kept)) };
 }
 
 // Whether a frame has a greater number than another one, if there is another.
@@ -50,19 +49,19 @@ fn is_between(after: Option<u64>, last: u64, kept: &Kept) -> bool
     is_behind(after, kept) && kept.seq <= last
 }
 
-// Whether a frame of so many bytes is in a batch behind others that have so many, if there are any.
-fn joins_batch(given: Option<u64>, size: u64) -> bool
-    ensures { result ≡ joins_batch given size }
+// Whether a frame of so many bytes is in a batch of at most so many behind others that have so many, if there are any.
+fn joins_batch(most: u64, given: Option<u64>, size: u64) -> bool
+    ensures { result ≡ joins_batch most given size }
 {
     match given {
-        Some(bytes) => u128::from(bytes) + u128::from(size) <= u128::from(MOST_BYTES),
+        Some(bytes) => u128::from(bytes) + u128::from(size) <= u128::from(most),
         None => true,
     }
 }
 
 // How many bytes they have with it.
-fn bytes_with(given: Option<u64>, size: u64) -> u64
-    requires { joins_batch given size ≡ true }
+fn bytes_with(most: u64, given: Option<u64>, size: u64) -> u64
+    requires { joins_batch most given size ≡ true }
     ensures { result ≡ bytes_with given size }
 {
     match given {
@@ -72,14 +71,20 @@ fn bytes_with(given: Option<u64>, size: u64) -> u64
 }
 
 impl<'a> Batch<'a> {
-    /// The batch at the front of those of these that have such numbers.
-    pub(crate) fn new(kept: Range<'a, u128, Kept>, after: Option<u64>, last: u64) -> Batch<'a>
-        ensures { result ≡ batch (between after last (values_of kept.entry)) }
+    /// The batch of at most so many bytes at the front of those of these that have such numbers.
+    pub(crate) fn new(
+        kept: Range<'a, u128, Kept>,
+        after: Option<u64>,
+        last: u64,
+        most: u64,
+    ) -> Batch<'a>
+        ensures { result ≡ batch most (between after last (values_of kept.entry)) }
     {
         Batch {
             kept,
             after,
             last,
+            most,
             given: None,
         }
     }
@@ -91,10 +96,10 @@ impl<'a> Batch<'a> {
         while let Some((_, kept)) = self.kept.next() {
             if is_between(self.after, self.last, kept) {
                 let size = kept.frame.len() as u64;
-                if !joins_batch(self.given, size) {
+                if !joins_batch(self.most, self.given, size) {
                     return None;
                 }
-                self.given = Some(bytes_with(self.given, size));
+                self.given = Some(bytes_with(self.most, self.given, size));
                 return Some(kept);
             }
         }

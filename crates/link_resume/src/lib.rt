@@ -16,7 +16,7 @@
 //! by its number, and gives it to the link again when the peer has a connection again, or asks for it. In versions 1 and 2 of a session
 //! at most 8,388,608 bytes are kept for one peer, so no peer that doesn't answer takes the room of others: where more is sent, it isn't
 //! kept, or the peer's oldest frames are dropped first (`make_room`). In version 3 all is kept (`most_kept`), and goes out again in
-//! batches of 262,144 bytes (`batch`).
+//! batches of so many bytes (`batch`).
 //!
 //! A frame that is kept shares its body with those that carry it to others, and its tag is computed as it goes out. It takes 56 bytes in a
 //! node of the tree, and as nodes are about half full where numbers ascend, some 125 bytes in all.

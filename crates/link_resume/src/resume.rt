@@ -125,22 +125,23 @@ impl Resume {
     }
 
     /// The batch at the front of what is kept for a peer under greater numbers than another one, if there is another, up to the last one:
-    /// as many frames as have at most 262,144 bytes together, and at least one. It takes no memory. Where the numbers ascend, the frames
+    /// as many frames as have at most so many bytes together, and at least one. It takes no memory. Where the numbers ascend, the frames
     /// before those aren't gone through.
-    pub fn batch(&self, peer: u8, after: Option<u64>, last: u64) -> Batch<'_>
+    pub fn batch(&self, peer: u8, after: Option<u64>, last: u64, most: u64) -> Batch<'_>
         requires { peer < length self.now.lists }
-        ensures { result ≡ batch (between after last (kept_for self.now.lists peer)) }
+        ensures { result ≡ batch most (between after last (kept_for self.now.lists peer)) }
     {
-        Batch::new(self.lanes[peer as usize].span(after, last), after, last)
+        let kept = self.lanes[peer as usize].span(after, last);
+        Batch::new(kept, after, last, most)
     }
 
     /// The number of the last frame of such a batch, if there is one. It takes no memory.
-    pub fn last_of_batch(&self, peer: u8, after: Option<u64>, last: u64) -> Option<u64>
+    pub fn last_of_batch(&self, peer: u8, after: Option<u64>, last: u64, most: u64) -> Option<u64>
         requires { peer < length self.now.lists }
-        ensures { result ≡ last_number (batch (between after last (kept_for self.now.lists peer))) }
+        ensures { result ≡ last_number (batch most (between after last (kept_for self.now.lists peer))) }
     {
         let mut number = None;
-        let mut batch = self.batch(peer, after, last);
+        let mut batch = self.batch(peer, after, last, most);
         while let Some(kept) = batch.next_frame() {
             number = Some(kept.seq);
         }

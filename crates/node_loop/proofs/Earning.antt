@@ -19,13 +19,13 @@ use Rattle.node_loop.specs.Resending.{mark_at}
 use Rattle.world_model.specs.MadeOrder.{MadeFrame}
 use Rattle.node_loop.specs.Waiting.{Waiting}
 use Rattle.node_loop.specs.Calls.{Outcome, event_called, item_does, first_does}
-use Rattle.node_loop.specs.Peers.{Peers, keep_all, with_mark}
+use Rattle.node_loop.specs.Peers.{Peers, keep_all, marked_early}
 use Rattle.node_loop.specs.Deeds.{Deed, Came, Made, Resent, Acked, Wished, Replied, pushed}
-use Rattle.node_loop.specs.Resending.{Brought, nothing_more, is_deferred, opened_so, resends, front_of, acked_so, connected, noted_so}
+use Rattle.node_loop.specs.Resending.{Brought, nothing_more, is_deferred, opened_so, acked_so, asked_so, connected, noted_so}
 use Rattle.node_loop.specs.Serving.{Serving, so_far, onto, Round, Began, Turned, Reminded, Took, frames_made_by, outcome, brought, round_does, after_from}
 use Rattle.node_loop.specs.Told.{after_groups, with_deeds, deeds_from}
 use Rattle.node_loop.specs.Laws.{IsEarned, AreEarned, AcksAreEarned}
-use Rattle.node_loop.proofs.Batching.{OnlyResends, part_resends, acked_resends, connected_resends}
+use Rattle.node_loop.proofs.Batching.{OnlyResends, acked_resends, asked_resends, connected_resends}
 use Rattle.node_loop.proofs.InOrder.{came, in_order, OfAnyKind, StaysWhere, any_together}
 use Rattle.node_loop.proofs.Reopening.{did_so, brings_so}
 
@@ -60,7 +60,7 @@ earned_later w es (Some e) (Acked i j seq ∷ ds) all = (
   },
   earned_later w es (Some e) ds all.1,
 )
-earned_later w es (Some e) (Wished i j ∷ ds) all = earned_later w es (Some e) ds all
+earned_later w es (Some e) (Wished i j seq ∷ ds) all = earned_later w es (Some e) ds all
 earned_later w es (Some e) (Replied sent ∷ ds) all = earned_later w es (Some e) ds all
 
 -- what is no acknowledgement changes nothing
@@ -84,9 +84,7 @@ noted_earned : (w : Setting) (es : List Event) (version : FrameVersion) (i : ℕ
     → AreEarned w es (pushed (noted_so version i p said).deeds ds)
 noted_earned w es version i p None ds all = all
 noted_earned w es version i p (Some (notes.Ack from seq)) ds all = only_earned w es i from (acked_so version i from seq p) ds (acked_resends version i from seq p) all
-noted_earned w es version i p (Some (notes.Again from)) ds all =
-    let part = front_of version (p.keeping i from) in
-    only_earned w es i from (resends i from part p) ds (part_resends i from part p) all
+noted_earned w es version i p (Some (notes.Again from seq)) ds all = only_earned w es i from (asked_so version i from seq p) ds (asked_resends version i from seq p) all
 
 -- a frame that opened, and whose call is the newest event
 ack_earned : (w : Setting) (es : List Event) (i : ℕ) (bytes : List ℕ) (fs : List MadeFrame) (ds : List Deed) (o : Opening)
@@ -107,7 +105,7 @@ ack_earned w es i bytes fs ds o is answered = record {
 
 opened_by : (w : Setting) (es : List Event) (i : ℕ) (bytes : List ℕ) (p : Peers) (o : Opening) → Bool → Brought
 opened_by w es i bytes p o t = if t
-    then nothing_more (with_mark i o.from (Some (mark_at w (events.Frame i bytes ∷ es) i o.from)) p)
+    then nothing_more (marked_early i o.from o.seq (mark_at w (events.Frame i bytes ∷ es) i o.from) p)
     else record { deeds = Acked i o.from o.seq ∷ []; peers = p }
 
 answer_earned : (w : Setting) (es : List Event) (i : ℕ) (bytes : List ℕ) (p : Peers) (fs : List MadeFrame) (ds : List Deed) (o : Opening) (t : Bool)
@@ -259,7 +257,7 @@ more_earned (Came now item) a b stay w es all = stay.earned w es all
 more_earned (Made f) a b stay w es all = stay.earned w es all
 more_earned (Resent i j frame) a b stay w es all = stay.earned w es all
 more_earned (Acked i j seq) a b stay w es all = (earned_by w es i j seq a b stay.come all.0, stay.earned w es all.1)
-more_earned (Wished i j) a b stay w es all = stay.earned w es all
+more_earned (Wished i j seq) a b stay w es all = stay.earned w es all
 more_earned (Replied sent) a b stay w es all = stay.earned w es all
 
 sooner_earned : (now : Bool) (item : LinkItem) (d : Deed) (ds : List Deed) (w : Setting) (es : List Event) → AreEarned w es (Came now item ∷ d ∷ ds)
@@ -268,7 +266,7 @@ sooner_earned now item (Came other one) ds w es all = all
 sooner_earned now item (Made f) ds w es all = all
 sooner_earned now item (Resent i j frame) ds w es all = all
 sooner_earned now item (Acked i j seq) ds w es all = (earned_by w es i j seq ds (Came now item ∷ ds) (λ other has. inr has) all.0, all.1)
-sooner_earned now item (Wished i j) ds w es all = all
+sooner_earned now item (Wished i j seq) ds w es all = all
 sooner_earned now item (Replied sent) ds w es all = all
 
 earned_stay : StaysWhere OfAnyKind StayEarned

@@ -15,10 +15,10 @@ use Rattle.world_model.specs.World.{Setting, seen_of}
 use Rattle.world_model.specs.MadeOrder.{MadeFrame}
 use Rattle.node_loop.specs.Waiting.{Waiting}
 use Rattle.node_loop.specs.Calls.{event_called}
-use Rattle.node_loop.specs.Peers.{Peers, keep_all, with_mark}
+use Rattle.node_loop.specs.Peers.{Peers, keep_all, marked_early}
 use Rattle.node_loop.specs.Deeds.{Deed, Made, Resent, Acked, Replied, pushed}
-use Rattle.node_loop.specs.Resending.{Brought, nothing_more, is_deferred, mark_at, opened_so, resends, front_of, acked_so, connected, noted_so}
-use Rattle.node_loop.proofs.Batching.{OnlyResends, part_resends, acked_resends, connected_resends}
+use Rattle.node_loop.specs.Resending.{Brought, nothing_more, is_deferred, mark_at, opened_so, acked_so, asked_so, connected, noted_so}
+use Rattle.node_loop.proofs.Batching.{OnlyResends, acked_resends, asked_resends, connected_resends}
 use Rattle.node_loop.specs.Serving.{Serving, so_far, Round, Began, Turned, Reminded, Took, frames_made_by, outcome, brought, after_from}
 use Rattle.node_loop.specs.Told.{after_groups, with_deeds, came_for, came_in, newest_deeds, deeds_from}
 use Rattle.node_loop.specs.EarnedRounds.{Earns, IsEarnedIn, EachAck, AcksAreOfRounds}
@@ -46,8 +46,7 @@ module _ (P : ℕ → ℕ → ℕ → List Deed → Type 0) where
   noted_each : (version : FrameVersion) (i : ℕ) (p : Peers) (said : Option Note) (ds : List Deed) → EachAck P ds → EachAck P (pushed (noted_so version i p said).deeds ds)
   noted_each version i p None ds all = all
   noted_each version i p (Some (notes.Ack from seq)) ds all = only_each i from (acked_so version i from seq p) ds (acked_resends version i from seq p) all
-  noted_each version i p (Some (notes.Again from)) ds all =
-      let part = front_of version (p.keeping i from) in only_each i from (resends i from part p) ds (part_resends i from part p) all
+  noted_each version i p (Some (notes.Again from seq)) ds all = only_each i from (asked_so version i from seq p) ds (asked_resends version i from seq p) all
 
   up_each : (version : FrameVersion) (at peer : ℕ) (p : Peers) (ds : List Deed) (b : Bool) → EachAck P ds
       → EachAck P (pushed (if b then connected version at peer p else nothing_more p).deeds ds)
@@ -71,7 +70,7 @@ module _ (P : ℕ → ℕ → ℕ → List Deed → Type 0) where
 
   opened_by : (w : Setting) (es : List Event) (i : ℕ) (bytes : List ℕ) (p : Peers) (o : Opening) → Bool → Brought
   opened_by w es i bytes p o t = if t
-      then nothing_more (with_mark i o.from (Some (mark_at w (events.Frame i bytes ∷ es) i o.from)) p)
+      then nothing_more (marked_early i o.from o.seq (mark_at w (events.Frame i bytes ∷ es) i o.from) p)
       else record { deeds = Acked i o.from o.seq ∷ []; peers = p }
 
   answer_each : (w : Setting) (es : List Event) (i : ℕ) (bytes : List ℕ) (p : Peers) (ds : List Deed) (o : Opening) (t : Bool)
@@ -93,7 +92,7 @@ ack_alone : (w : Setting) (es : List Event) (i : ℕ) (bytes : List ℕ) (p : Pe
     → is_deferred (seen_of w es (events.Frame i bytes)) ≡ false → (opened_so w es i bytes p (opening (w.keys i) bytes)).deeds ≡ Acked i o.from o.seq ∷ []
 ack_alone w es i bytes p o is answered =
     ap (λ (said : Result Opening OpenFault). (opened_so w es i bytes p said).deeds) is
-    ∙ ap (λ (t : Bool). (if t then nothing_more (with_mark i o.from (Some (mark_at w (events.Frame i bytes ∷ es) i o.from)) p)
+    ∙ ap (λ (t : Bool). (if t then nothing_more (marked_early i o.from o.seq (mark_at w (events.Frame i bytes ∷ es) i o.from) p)
     else record { deeds = Acked i o.from o.seq ∷ []; peers = p }).deeds) answered
 
 -- ---- a round

@@ -20,8 +20,8 @@ use Rattle.world_model.specs.World.{Setting, seen_of}
 use Rattle.world_model.specs.MadeOrder.{MadeFrame, all_made}
 use Rattle.node_loop.specs.Peers.{Peers, keep_all}
 use Rattle.node_loop.specs.Deeds.{Deed, Came, Made, Resent, Acked, Wished, Replied, pushed, act_of, firsts_in}
-use Rattle.node_loop.specs.Resending.{Brought, is_deferred, opened_so, resends, front_of, acked_so, connected, noted_so, item_brings}
-use Rattle.node_loop.proofs.Batching.{OnlyResends, part_resends, acked_resends, connected_resends}
+use Rattle.node_loop.specs.Resending.{Brought, is_deferred, opened_so, acked_so, asked_so, connected, noted_so, item_brings}
+use Rattle.node_loop.proofs.Batching.{OnlyResends, acked_resends, asked_resends, connected_resends}
 use Rattle.node_loop.specs.Serving.{Serving, so_far, as_sent, frames_made_by, sent_of, onto, Round, Began, Turned, Reminded, Took, at_call, outcome, brought, round_does, after_from}
 use Rattle.node_loop.specs.Told.{given_for, given_in, news_from, after_groups, came_for, came_in, with_deeds, newest_deeds, deeds_from}
 use Rattle.node_loop.specs.Laws.{ActsAreDeeds, DeedsAreBehind, FramesAreMade}
@@ -160,7 +160,7 @@ firsts_replied (r ∷ rs) ds = firsts_replied rs (Replied r ∷ ds)
 abbrev pub IsBesides : Deed → Type 0
 IsBesides (Resent i j frame) = Unit {0}
 IsBesides (Acked i j seq) = Unit {0}
-IsBesides (Wished i j) = Unit {0}
+IsBesides (Wished i j seq) = Unit {0}
 IsBesides deed = ⊥
 
 firsts_besides : (more ds : List Deed) → AllByRecursion IsBesides more → firsts_in (pushed more ds) ≡ firsts_in ds
@@ -169,7 +169,7 @@ firsts_besides (Came now item ∷ more) ds all = absurd all.0
 firsts_besides (Made f ∷ more) ds all = absurd all.0
 firsts_besides (Resent i j frame ∷ more) ds all = firsts_besides more (Resent i j frame ∷ ds) all.1
 firsts_besides (Acked i j seq ∷ more) ds all = firsts_besides more (Acked i j seq ∷ ds) all.1
-firsts_besides (Wished i j ∷ more) ds all = firsts_besides more (Wished i j ∷ ds) all.1
+firsts_besides (Wished i j seq ∷ more) ds all = firsts_besides more (Wished i j seq ∷ ds) all.1
 firsts_besides (Replied sent ∷ more) ds all = absurd all.0
 
 resent_besides : (i j : ℕ) (ks : List Kept) → AllByRecursion IsBesides (map (λ k. Resent i j k.frame) ks)
@@ -182,8 +182,7 @@ only_besides i j brings only = subst (λ (ds : List Deed). AllByRecursion IsBesi
 noted_besides : (version : FrameVersion) (i : ℕ) (p : Peers) (said : Option Note) → AllByRecursion IsBesides (noted_so version i p said).deeds
 noted_besides version i p None = tt
 noted_besides version i p (Some (notes.Ack from seq)) = only_besides i from (acked_so version i from seq p) (acked_resends version i from seq p)
-noted_besides version i p (Some (notes.Again from)) =
-    let part = front_of version (p.keeping i from) in only_besides i from (resends i from part p) (part_resends i from part p)
+noted_besides version i p (Some (notes.Again from seq)) = only_besides i from (asked_so version i from seq p) (asked_resends version i from seq p)
 
 one_of : (a b : Brought) (t : Bool) → AllByRecursion IsBesides a.deeds → AllByRecursion IsBesides b.deeds → AllByRecursion IsBesides (if t then a else b).deeds
 one_of a b true first second = first
@@ -254,7 +253,7 @@ firsts_more (Came now item) a b same = same
 firsts_more (Made f) a b same = ap (λ (l : List MadeFrame). f ∷ l) same
 firsts_more (Resent i j frame) a b same = same
 firsts_more (Acked i j seq) a b same = same
-firsts_more (Wished i j) a b same = same
+firsts_more (Wished i j seq) a b same = same
 firsts_more (Replied sent) a b same = same
 
 firsts_sooner : (now : Bool) (item : LinkItem) (d : Deed) (ds : List Deed) → firsts_in (Came now item ∷ d ∷ ds) ≡ firsts_in (d ∷ Came now item ∷ ds)
@@ -262,7 +261,7 @@ firsts_sooner now item (Came other one) ds = refl
 firsts_sooner now item (Made f) ds = refl
 firsts_sooner now item (Resent i j frame) ds = refl
 firsts_sooner now item (Acked i j seq) ds = refl
-firsts_sooner now item (Wished i j) ds = refl
+firsts_sooner now item (Wished i j seq) ds = refl
 firsts_sooner now item (Replied sent) ds = refl
 
 firsts_stay : StaysWhere OfAnyKind HaveOneFirsts

@@ -1,5 +1,5 @@
 -- What a replica hears of its peers, and what it keeps for them then.
-use Rattle.std.proofs.Common.{◌≡◌, ℕ, ◌<◌, ◌≤◌, ◌==◌, ◌&&◌, Bool, true, false, List, [], ◌∷◌, ◌++◌, length, map, slice_set, slice_index_or, Option, Some, None, Result, Ok, Err, inl, inr, refl, sym, ◌∙◌, ap, ap₂, subst, get_or-set_other, get_or-set_same, arith, if◌then◌else◌}
+use Rattle.std.proofs.Common.{◌≡◌, ℕ, ◌<◌, ◌≤◌, ◌==◌, ◌&&◌, Bool, true, false, nat_lt, List, [], ◌∷◌, ◌++◌, length, map, slice_set, slice_index_or, Option, Some, None, Result, Ok, Err, inl, inr, refl, sym, ◌∙◌, ap, ap₂, subst, get_or-set_other, get_or-set_same, arith, if◌then◌else◌}
 use Rattle.std.specs.List.{slice_get}
 use Rattle.std.specs.Option.{MatchOption, IfSome}
 use Rattle.std.proofs.lemmas.Bool.{cases_Bool, cases_eq, eq-eqb, eqb-true}
@@ -45,15 +45,16 @@ use Rattle.node_loop.specs.declared.output.Reply.{Reply}
 use Rattle.node_loop.specs.declared.house.House.{House}
 use Rattle.node_loop.specs.declared.output.Output.{Output}
 use Rattle.node_loop.specs.declared.peers.Keeper.{Keeper}
+use Rattle.node_loop.specs.declared.peers.Early.{Early}
 use Rattle.node_loop.specs.declared.peers.Mark.{Mark}
 use Rattle.node_loop.specs.declared.peers.Pending.{Pending}
 use Rattle.node_loop.specs.declared.waiting.Waiters.{Waiters}
 use Rattle.node_loop.specs.Waiting.{Waiting}
 use Rattle.node_loop.specs.Calls.{Outcome, event_called, silent, item_does, waiting_left_by, replies_by}
 use Rattle.node_loop.specs.Deeds.{Acked}
-use Rattle.node_loop.specs.Peers.{Peers, is_pair, with_list, with_mark, with_pending, acknowledged, keep_all}
+use Rattle.node_loop.specs.Peers.{Peers, is_pair, with_list, with_mark, early_with, marked_early, with_pending, acknowledged, keep_all}
 use Rattle.node_loop.specs.PeersStanding.{AreKept, AreMarked, ArePending, IsKeeper}
-use Rattle.node_loop.specs.Resending.{Brought, nothing_more, mark_at, is_deferred, opened_so, sends_batch, goes_on, acked_so, connected, noted_so, item_brings}
+use Rattle.node_loop.specs.Resending.{Brought, nothing_more, mark_at, is_deferred, opened_so, newest_in, most_batch_bytes, before, sends_batch, goes_on, begins_at, begins_unless, acked_so, asked_so, connected, noted_so, item_brings}
 use Rattle.node_loop.specs.Serving.{frames_made_by}
 use Rattle.node_loop.specs.Served.{AreHere}
 use Rattle.node_loop.specs.Standing.{HouseStands, ComesOut, IsEmptyOutput, IsMore, is_answer_opened, reply_by}
@@ -92,7 +93,7 @@ list_elsewhere version n i at j list keeper p other is = record {
   pending = is.pending;
 }
 
-pub mark_elsewhere : (version : FrameVersion) (n i at j : ℕ) (mark : Option Mark) (keeper : Keeper) (p : Peers) → (i ≡ at → ⊥) → IsKeeper version n i keeper p
+mark_elsewhere : (version : FrameVersion) (n i at j : ℕ) (mark : Option Early) (keeper : Keeper) (p : Peers) → (i ≡ at → ⊥) → IsKeeper version n i keeper p
     → IsKeeper version n i keeper (with_mark at j mark p)
 mark_elsewhere version n i at j mark keeper p other is = record {
   version_is = is.version_is;
@@ -117,10 +118,10 @@ pending_elsewhere version n i at j pending keeper p other is = record {
   };
 }
 
--- whatever comes of an acknowledgement, or of a connection
-pub batch_elsewhere : (version : FrameVersion) (n i at j : ℕ) (after : Option ℕ) (end : ℕ) (keeper : Keeper) (p : Peers) → (i ≡ at → ⊥) → IsKeeper version n i keeper p
-    → IsKeeper version n i keeper (sends_batch at j after end p).peers
-batch_elsewhere version n i at j after end keeper p other is = pending_elsewhere version n i at j _ keeper p other is
+-- whatever comes of an acknowledgement, of a note that asks for more, or of a connection
+batch_elsewhere : (version : FrameVersion) (n i at j : ℕ) (after : Option ℕ) (end most : ℕ) (keeper : Keeper) (p : Peers) → (i ≡ at → ⊥) → IsKeeper version n i keeper p
+    → IsKeeper version n i keeper (sends_batch at j after end most p).peers
+batch_elsewhere version n i at j after end most keeper p other is = pending_elsewhere version n i at j _ keeper p other is
 
 either_elsewhere : (version : FrameVersion) (n i : ℕ) (keeper : Keeper) (x y : Brought) (b : Bool) → IsKeeper version n i keeper x.peers → IsKeeper version n i keeper y.peers
     → IsKeeper version n i keeper (if b then x else y).peers
@@ -131,8 +132,8 @@ goes_on_elsewhere : (version : FrameVersion) (n i at j seq : ℕ) (pending : Opt
     → IsKeeper version n i keeper (goes_on at j seq pending p).peers
 goes_on_elsewhere version n i at j seq None keeper p other is = is
 goes_on_elsewhere version n i at j seq (Some pending) keeper p other is =
-    either_elsewhere version n i keeper (sends_batch at j (Some seq) pending.end p) (nothing_more p) (pending.last == seq)
-    (batch_elsewhere version n i at j (Some seq) pending.end keeper p other is) is
+    either_elsewhere version n i keeper (sends_batch at j (Some seq) pending.end most_batch_bytes p) (nothing_more p) (pending.last == seq)
+    (batch_elsewhere version n i at j (Some seq) pending.end most_batch_bytes keeper p other is) is
 
 acked_by : (by version : FrameVersion) (n i at j seq : ℕ) (keeper : Keeper) (p : Peers) → (i ≡ at → ⊥) → IsKeeper version n i keeper (acknowledged at j seq p)
     → IsKeeper version n i keeper (acked_so by at j seq p).peers
@@ -145,11 +146,28 @@ pub acked_elsewhere : (version : FrameVersion) (n i at j seq : ℕ) (keeper : Ke
 acked_elsewhere version n i at j seq keeper p other is =
     acked_by version version n i at j seq keeper p other (list_elsewhere version n i at j (all_but seq (p.keeping at j)) keeper p other is)
 
+begins_elsewhere : (version : FrameVersion) (n i at j seq : ℕ) (pending : Option Pending) (keeper : Keeper) (p : Peers) → (i ≡ at → ⊥) → IsKeeper version n i keeper p
+    → IsKeeper version n i keeper (begins_unless at j seq pending p).peers
+begins_elsewhere version n i at j seq None keeper p other is = batch_elsewhere version n i at j (before seq) _ 0 keeper p other is
+begins_elsewhere version n i at j seq (Some pending) keeper p other is =
+    either_elsewhere version n i keeper (nothing_more (with_pending at j (Some (record { last = pending.last; end = newest_in (p.keeping at j) })) p)) (begins_at at j seq p)
+    (nat_lt pending.last seq) (pending_elsewhere version n i at j _ keeper p other is) (batch_elsewhere version n i at j (before seq) _ 0 keeper p other is)
+
+asked_by : (by version : FrameVersion) (n i at j seq : ℕ) (keeper : Keeper) (p : Peers) → (i ≡ at → ⊥) → IsKeeper version n i keeper p
+    → IsKeeper version n i keeper (asked_so by at j seq p).peers
+asked_by One version n i at j seq keeper p other is = is
+asked_by Two version n i at j seq keeper p other is = is
+asked_by Three version n i at j seq keeper p other is = begins_elsewhere version n i at j seq (p.pending at j) keeper p other is
+
+pub asked_elsewhere : (version : FrameVersion) (n i at j seq : ℕ) (keeper : Keeper) (p : Peers) → (i ≡ at → ⊥) → IsKeeper version n i keeper p
+    → IsKeeper version n i keeper (asked_so version at j seq p).peers
+asked_elsewhere version n i at j seq keeper p other is = asked_by version version n i at j seq keeper p other is
+
 connected_by : (by version : FrameVersion) (n i at j : ℕ) (keeper : Keeper) (p : Peers) → (i ≡ at → ⊥) → IsKeeper version n i keeper p
     → IsKeeper version n i keeper (connected by at j p).peers
 connected_by One version n i at j keeper p other is = is
 connected_by Two version n i at j keeper p other is = is
-connected_by Three version n i at j keeper p other is = batch_elsewhere version n i at j None _ keeper p other is
+connected_by Three version n i at j keeper p other is = batch_elsewhere version n i at j None _ most_batch_bytes keeper p other is
 
 pub connected_elsewhere : (version : FrameVersion) (n i at j : ℕ) (b : Bool) (keeper : Keeper) (p : Peers) → (i ≡ at → ⊥) → IsKeeper version n i keeper p
     → IsKeeper version n i keeper (if b then connected version at j p else nothing_more p).peers
@@ -157,9 +175,9 @@ connected_elsewhere version n i at j b keeper p other is =
     either_elsewhere version n i keeper (connected version at j p) (nothing_more p) b (connected_by version version n i at j keeper p other is) is
 
 -- a peer got a mark
-pub mark_there : (version : FrameVersion) (n at j : ℕ) (mark : Option Mark) (old new : Keeper) (p : Peers) → IsKeeper version n at old p → new ≡ record old { marks = new.marks }
-    → new.marks.items ≡ slice_set old.marks.items j mark → IsKeeper version n at new (with_mark at j mark p)
-mark_there version n at j mark old new p is rest marks = record {
+mark_there : (version : FrameVersion) (n at j : ℕ) (mark other : Option Early) (old new : Keeper) (p : Peers) → IsKeeper version n at old p → new ≡ record old { marks = new.marks }
+    → new.marks.items ≡ slice_set old.marks.items j mark → (j < n → mark ≡ other) → IsKeeper version n at new (with_mark at j other p)
+mark_there version n at j mark other old new p is rest marks same = record {
   version_is = ap (λ (k : Keeper). k.version) rest ∙ is.version_is;
   kept = let P : Keepings → Type 0 = λ ls. AreKept version n at ls p.keeping in subst P (sym (ap (λ (k : Keeper). k.resume) rest)) is.kept;
   marked = record {
@@ -167,15 +185,28 @@ mark_there version n at j mark old new p is rest marks = record {
     each = λ k within. ap (λ xs. slice_index_or xs k None) marks ∙ elim (cases_eq k j) [
       | inl one ↦
           let here : j < length old.marks.items = omega (arith, within, one, is.marked.many) in
-          ap (λ x. slice_index_or (slice_set old.marks.items j mark) x None) one ∙ get_or-set_same old.marks.items j mark None here
-          ∙ sym (ap (λ (t : Bool). if t then mark else p.marks at k) (ap (is_pair at j at) one ∙ this_pair at j))
-      | inr other ↦
-          get_or-set_other old.marks.items j k mark None other ∙ is.marked.each k within
-          ∙ sym (ap (λ (t : Bool). if t then mark else p.marks at k) (not_second at j k other))
+          ap (λ x. slice_index_or (slice_set old.marks.items j mark) x None) one ∙ get_or-set_same old.marks.items j mark None here ∙ same (omega (arith, within, one))
+          ∙ sym (ap (λ (t : Bool). if t then other else p.marks at k) (ap (is_pair at j at) one ∙ this_pair at j))
+      | inr apart ↦
+          get_or-set_other old.marks.items j k mark None apart ∙ is.marked.each k within
+          ∙ sym (ap (λ (t : Bool). if t then other else p.marks at k) (not_second at j k apart))
     ];
   };
   pending = let P : List (Option Pending) → Type 0 = λ ls. ArePending n at ls p.pending in subst P (sym (ap (λ (k : Keeper). k.pending.items) rest)) is.pending;
 }
+
+-- a frame of it came too early
+pub early_there : (version : FrameVersion) (n at j seq : ℕ) (mark : Mark) (old new : Keeper) (p : Peers) → IsKeeper version n at old p → new ≡ record old { marks = new.marks }
+    → new.marks.items ≡ slice_set old.marks.items j (Some (early_with (slice_index_or old.marks.items j None) mark seq))
+    → IsKeeper version n at new (marked_early at j seq mark p)
+early_there version n at j seq mark old new p is rest marks =
+    let with_it : Option Early → Option Early = λ o. Some (early_with o mark seq) in
+    mark_there version n at j (with_it (slice_index_or old.marks.items j None)) (with_it (p.marks at j)) old new p is rest marks
+    (λ within. ap with_it (is.marked.each j within))
+
+pub early_elsewhere : (version : FrameVersion) (n i at j seq : ℕ) (mark : Mark) (keeper : Keeper) (p : Peers) → (i ≡ at → ⊥) → IsKeeper version n i keeper p
+    → IsKeeper version n i keeper (marked_early at j seq mark p)
+early_elsewhere version n i at j seq mark keeper p other is = mark_elsewhere version n i at j (Some (early_with (p.marks at j) mark seq)) keeper p other is
 
 -- what is kept for it went out again so far
 pub pending_there : (version : FrameVersion) (n at j : ℕ) (pending : Option Pending) (old new : Keeper) (p : Peers) → IsKeeper version n at old p → new ≡ record old { pending = new.pending }
@@ -183,7 +214,7 @@ pub pending_there : (version : FrameVersion) (n at j : ℕ) (pending : Option Pe
 pending_there version n at j pending old new p is rest set = record {
   version_is = ap (λ (k : Keeper). k.version) rest ∙ is.version_is;
   kept = let P : Keepings → Type 0 = λ ls. AreKept version n at ls p.keeping in subst P (sym (ap (λ (k : Keeper). k.resume) rest)) is.kept;
-  marked = let P : List (Option Mark) → Type 0 = λ ls. AreMarked n at ls p.marks in subst P (sym (ap (λ (k : Keeper). k.marks.items) rest)) is.marked;
+  marked = let P : List (Option Early) → Type 0 = λ ls. AreMarked n at ls p.marks in subst P (sym (ap (λ (k : Keeper). k.marks.items) rest)) is.marked;
   pending = record {
     many = ap length set ∙ length-set old.pending.items j pending ∙ is.pending.many;
     each = λ k within. ap (λ xs. slice_index_or xs k None) set ∙ elim (cases_eq k j) [
@@ -242,15 +273,15 @@ pub comes_with : {S E C : Type 0} (m : Meaning S E C KeyRow) (w : Setting) (es :
 comes_with m w es numbers now output did more other same comes = let P : Brought → Type 0 = λ x. ComesOut m w es numbers now output did x in subst P same comes
 
 -- a mark stays where frames are kept
-pub keep_marked : (version : FrameVersion) (fs : List MadeFrame) (i j : ℕ) (mark : Option Mark) (p : Peers)
-    → keep_all version fs (with_mark i j mark p) ≡ with_mark i j mark (keep_all version fs p)
-keep_marked version [] i j mark p = refl
-keep_marked version (f ∷ fs) i j mark p = keep_marked version fs i j mark _
+keep_marked : (version : FrameVersion) (fs : List MadeFrame) (i j seq : ℕ) (mark : Mark) (p : Peers)
+    → keep_all version fs (marked_early i j seq mark p) ≡ marked_early i j seq mark (keep_all version fs p)
+keep_marked version [] i j seq mark p = refl
+keep_marked version (f ∷ fs) i j seq mark p = keep_marked version fs i j seq mark _
 
 -- the same mark by another name
-pub marked_so : {S E C : Type 0} (m : Meaning S E C KeyRow) (w : Setting) (es : List Event) (numbers : List ℕ) (now : House S E C) (ws : Waiting) (at j : ℕ) (mark other : Mark) (p : Peers) → mark ≡ other
-    → HouseStands m w es numbers now ws (with_mark at j (Some mark) p) → HouseStands m w es numbers now ws (with_mark at j (Some other) p)
-marked_so m w es numbers now ws at j mark other p same stands = let P : Mark → Type 0 = λ x. HouseStands m w es numbers now ws (with_mark at j (Some x) p) in subst P same stands
+pub marked_so : {S E C : Type 0} (m : Meaning S E C KeyRow) (w : Setting) (es : List Event) (numbers : List ℕ) (now : House S E C) (ws : Waiting) (at j seq : ℕ) (mark other : Mark) (p : Peers) → mark ≡ other
+    → HouseStands m w es numbers now ws (marked_early at j seq mark p) → HouseStands m w es numbers now ws (marked_early at j seq other p)
+marked_so m w es numbers now ws at j seq mark other p same stands = let P : Mark → Type 0 = λ x. HouseStands m w es numbers now ws (marked_early at j seq x p) in subst P same stands
 
 -- where there is one, it is this
 pub if_some_at : {X : Type 0} (P : X → Type 0) (o : Option X) (x : X) → o ≡ Some x → P x → IfSome o P
@@ -309,30 +340,31 @@ opened_comes : {S E C : Type 0} (m : Meaning S E C KeyRow) (w : Setting) (es : L
     → HouseStands m w (events.Frame at bytes ∷ es) numbers given ws p → was ≡ mores.Nothing → frame.from ≡ o.from → frame.seq ≡ o.seq → o.from < w.numbers.n
     → is_deferred (seen_of w es (events.Frame at bytes)) ≡ b → is_deferred (seen_answer answer) ≡ b
     → (is_deferred (seen_answer answer) ≡ true
-    → HouseStands m w (events.Frame at bytes ∷ es) numbers now ws (with_mark at frame.from (Some (mark_at w (events.Frame at bytes ∷ es) at frame.from)) p) × (out ≡ was))
+    → HouseStands m w (events.Frame at bytes ∷ es) numbers now ws (marked_early at frame.from frame.seq (mark_at w (events.Frame at bytes ∷ es) at frame.from) p) × (out ≡ was))
     → (is_deferred (seen_answer answer) ≡ false → frame.from < w.numbers.n → (now ≡ given) × (out ≡ mores.Note frame.from (ack_note (w.keys at) frame.from frame.seq)))
     → Heard m w es numbers now ws at (events.Frame at bytes) out (opened_so w es at bytes (keep_all w.mode.version (frames_made_by w es (Some (events.Frame at bytes))) p) (Ok o))
 opened_comes m w es numbers given now ws p at bytes frame o was out answer true stands clear from_is seq_is below deferred told marks takes =
     let e = events.Frame at bytes in
     let fs = frames_made_by w es (Some e) in
     let marked = marks told in
-    let mark : ℕ → Option Mark = λ j. Some (mark_at w (e ∷ es) at j) in
-    heard_as m w es numbers now ws at e out (nothing_more (with_mark at o.from (mark o.from) (keep_all w.mode.version fs p))) _
-    (sym (ap (λ (t : Bool). if t then nothing_more (with_mark at o.from (mark o.from) (keep_all w.mode.version fs p)) else record { deeds = Acked at o.from o.seq ∷ []; peers = keep_all w.mode.version fs p }) deferred))
+    let early : ℕ → ℕ → Peers → Peers = λ j seq q. marked_early at j seq (mark_at w (e ∷ es) at j) q in
+    heard_as m w es numbers now ws at e out (nothing_more (early o.from o.seq (keep_all w.mode.version fs p))) _
+    (sym (ap (λ (t : Bool). if t then nothing_more (early o.from o.seq (keep_all w.mode.version fs p)) else record { deeds = Acked at o.from o.seq ∷ []; peers = keep_all w.mode.version fs p }) deferred))
     (record {
-      before = with_mark at frame.from (mark frame.from) p;
-      besides = is_none w at out (nothing_more (with_mark at o.from (mark o.from) (keep_all w.mode.version fs p))) (marked.1 ∙ clear) refl;
-      kept = keep_marked w.mode.version fs at frame.from (mark frame.from) p ∙ ap (λ j. with_mark at j (mark j) (keep_all w.mode.version fs p)) from_is;
+      before = early frame.from frame.seq p;
+      besides = is_none w at out (nothing_more (early o.from o.seq (keep_all w.mode.version fs p))) (marked.1 ∙ clear) refl;
+      kept = keep_marked w.mode.version fs at frame.from frame.seq (mark_at w (e ∷ es) at frame.from) p
+          ∙ ap₂ (λ j seq. early j seq (keep_all w.mode.version fs p)) from_is seq_is;
       stands = marked.0;
     })
 opened_comes {S = S} {E = E} {C = C} m w es numbers given now ws p at bytes frame o was out answer false stands clear from_is seq_is below deferred told marks takes =
     let e = events.Frame at bytes in
     let fs = frames_made_by w es (Some e) in
     let took = takes told (omega (arith, below, from_is)) in
-    let mark : ℕ → Option Mark = λ j. Some (mark_at w (e ∷ es) at j) in
+    let early : ℕ → ℕ → Peers → Peers = λ j seq q. marked_early at j seq (mark_at w (e ∷ es) at j) q in
     let note : ℕ → ℕ → More = λ j seq. mores.Note j (ack_note (w.keys at) j seq) in
     heard_as m w es numbers now ws at e out (record { deeds = Acked at o.from o.seq ∷ []; peers = keep_all w.mode.version fs p }) _
-    (sym (ap (λ (t : Bool). if t then nothing_more (with_mark at o.from (mark o.from) (keep_all w.mode.version fs p)) else record { deeds = Acked at o.from o.seq ∷ []; peers = keep_all w.mode.version fs p }) deferred))
+    (sym (ap (λ (t : Bool). if t then nothing_more (early o.from o.seq (keep_all w.mode.version fs p)) else record { deeds = Acked at o.from o.seq ∷ []; peers = keep_all w.mode.version fs p }) deferred))
     (record {
       before = p;
       besides = let P : More → Type 0 = λ x. IsMore w at x (record { deeds = Acked at o.from o.seq ∷ []; peers = keep_all w.mode.version fs p }) in
@@ -353,7 +385,7 @@ heard_by : {S E C : Type 0} (m : Meaning S E C KeyRow) (w : Setting) (es : List 
     → ((x : Opening) → o ≡ Ok x → (least_frame ≤ length bytes) × (x ≡ opening_parts bytes) × (x.from < w.numbers.n))
     → (is_answer_opened answer ≡ false → (now ≡ given) × (out ≡ was))
     → (is_answer_opened answer ≡ true → is_deferred (seen_answer answer) ≡ true → IfSome carried (λ f.
-    HouseStands m w (events.Frame at bytes ∷ es) numbers now ws (with_mark at f.from (Some (mark_at w (events.Frame at bytes ∷ es) at f.from)) p) × (out ≡ was)))
+    HouseStands m w (events.Frame at bytes ∷ es) numbers now ws (marked_early at f.from f.seq (mark_at w (events.Frame at bytes ∷ es) at f.from) p) × (out ≡ was)))
     → (is_answer_opened answer ≡ true → is_deferred (seen_answer answer) ≡ false → IfSome carried (λ f.
     f.from < w.numbers.n → (now ≡ given) × (out ≡ mores.Note f.from (ack_note (w.keys at) f.from f.seq))))
     → Heard m w es numbers now ws at (events.Frame at bytes) out (opened_so w es at bytes (keep_all w.mode.version (frames_made_by w es (Some (events.Frame at bytes))) p) o)
@@ -386,7 +418,7 @@ pub heard : {S E C : Type 0} (m : Meaning S E C KeyRow) (w : Setting) (es : List
     → IsHeaderOf bytes carried → OpenedParts → OpenedFromPeer
     → (is_answer_opened answer ≡ false → (now ≡ given) × (out ≡ was))
     → (is_answer_opened answer ≡ true → is_deferred (seen_answer answer) ≡ true → IfSome carried (λ f.
-    HouseStands m w (events.Frame at bytes ∷ es) numbers now ws (with_mark at f.from (Some (mark_at w (events.Frame at bytes ∷ es) at f.from)) p) × (out ≡ was)))
+    HouseStands m w (events.Frame at bytes ∷ es) numbers now ws (marked_early at f.from f.seq (mark_at w (events.Frame at bytes ∷ es) at f.from) p) × (out ≡ was)))
     → (is_answer_opened answer ≡ true → is_deferred (seen_answer answer) ≡ false → IfSome carried (λ f.
     f.from < w.numbers.n → (now ≡ given) × (out ≡ mores.Note f.from (ack_note (w.keys at) f.from f.seq))))
     → Heard m w es numbers now ws at (events.Frame at bytes) out (opened_so w es at bytes (keep_all w.mode.version (frames_made_by w es (Some (events.Frame at bytes))) p) (opening (w.keys at) bytes))

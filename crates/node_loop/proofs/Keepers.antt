@@ -14,7 +14,7 @@ use Rattle.ritas_core.specs.Parts.{parts}
 use Rattle.ritas_core.specs.Rules.{Rules, seat_of}
 use Rattle.world_model.specs.World.{Setting, rules_at, states_of}
 use Rattle.node_loop.specs.declared.peers.Keeper.{Keeper}
-use Rattle.node_loop.specs.declared.peers.Mark.{Mark}
+use Rattle.node_loop.specs.declared.peers.Early.{Early}
 use Rattle.node_loop.specs.declared.peers.Pair.{Pair}
 use Rattle.node_loop.specs.Peers.{Peers, is_due_of}
 use Rattle.node_loop.specs.PeersStanding.{IsKeeper}
@@ -99,10 +99,10 @@ first_due w es p i j below passes none =
 pub no_marks : (w : Setting) (es : List Event) (p : Peers) (i : ℕ) (keeper : Keeper) → IsKeeper w.mode.version w.numbers.n i keeper p
     → ((j : ℕ) → slice_index_or keeper.marks.items j None ≡ None) → peers_due w es p i ≡ []
 no_marks w es p i keeper is none =
-    none_due w es p i (λ j below. ap (λ (o : Option Mark). is_due_of o (mark_at w es i j)) (sym (is.marked.each j below) ∙ none j))
+    none_due w es p i (λ j below. ap (λ (o : Option Early). is_due_of o (mark_at w es i j)) (sym (is.marked.each j below) ∙ none j))
 
 -- what was read of a peer
-pub due_read : (w : Setting) (es : List Event) (p : Peers) (i j progress held : ℕ) (keeper : Keeper) (was : Option Mark) (said : Bool) → IsKeeper w.mode.version w.numbers.n i keeper p → j < w.numbers.n
+pub due_read : (w : Setting) (es : List Event) (p : Peers) (i j progress held : ℕ) (keeper : Keeper) (was : Option Early) (said : Bool) → IsKeeper w.mode.version w.numbers.n i keeper p → j < w.numbers.n
     → progress ≡ replica_progress (rules_at w i) (states_of w es i) w.numbers.n → held ≡ held_bytes (states_of w es i).held j
     → was ≡ slice_index_or keeper.marks.items j None → said ≡ is_due_of was (record { progress = progress; held = held }) → said ≡ is_due_at w es p i j
 due_read w es p i j progress held keeper was said is below come holds read saw =

@@ -47,7 +47,7 @@ firsts_both (Came now item ∷ a) b = firsts_both a b
 firsts_both (Made f ∷ a) b = ap (λ (l : List MadeFrame). f ∷ l) (firsts_both a b)
 firsts_both (Resent i j frame ∷ a) b = firsts_both a b
 firsts_both (Acked i j seq ∷ a) b = firsts_both a b
-firsts_both (Wished i j ∷ a) b = firsts_both a b
+firsts_both (Wished i j seq ∷ a) b = firsts_both a b
 firsts_both (Replied sent ∷ a) b = firsts_both a b
 
 sendings_parts : (rest done : List Deed) → first_sendings (rest ++ done) ≡ first_sendings done ++ first_sendings rest

@@ -23,13 +23,13 @@ use Rattle.world_model.specs.World.{Setting, seen_of}
 use Rattle.world_model.specs.MadeOrder.{MadeFrame, all_made}
 use Rattle.node_loop.specs.Waiting.{Waiting}
 use Rattle.node_loop.specs.Calls.{Outcome, event_called, silent, item_does, first_does}
-use Rattle.node_loop.specs.declared.peers.Mark.{Mark}
-use Rattle.node_loop.specs.Peers.{Peers, is_pair, with_list, with_mark, with_pending, keeps, keep_one, keep_all, acknowledged}
+use Rattle.node_loop.specs.declared.peers.Early.{Early}
+use Rattle.node_loop.specs.Peers.{Peers, is_pair, with_list, with_mark, early_with, marked_early, with_pending, keeps, keep_one, keep_all, acknowledged}
 use Rattle.node_loop.specs.Deeds.{Deed, Came, Made, Resent, Acked, Wished, Replied, pushed, is_resent, has_resent, says_so, acks, is_first, is_connected}
 use Rattle.node_loop.specs.declared.output.Part.{Part}
 use Rattle.node_loop.specs.declared.output.Part.TheVariants as parts_are
 use Rattle.node_loop.specs.declared.peers.Pending.{Pending}
-use Rattle.node_loop.specs.Resending.{Brought, nothing_more, mark_at, is_deferred, opened_so, part_of, resends, front_of, sends_batch, goes_on, acked_so, connected, noted_so}
+use Rattle.node_loop.specs.Resending.{Brought, nothing_more, mark_at, is_deferred, opened_so, part_of, resends, newest_in, most_batch_bytes, before, sends_batch, goes_on, begins_at, begins_unless, acked_so, asked_so, connected, noted_so}
 use Rattle.node_loop.proofs.Batching.{part_all}
 use Rattle.node_loop.specs.Serving.{Serving, so_far, Round, Began, Turned, Reminded, Took, frames_made_by, brought, outcome, after_from}
 use Rattle.node_loop.specs.Told.{AreJoined, AreGroups, after_groups, came_in, with_deeds, newest_deeds, deeds_from}
@@ -135,9 +135,9 @@ resends_good w i j part p ds good =
 pending_good : (w : Setting) (i j : ℕ) (pending : Option Pending) (p : Peers) (ds : List Deed) → Good w p ds → Good w (with_pending i j pending p) ds
 pending_good w i j pending p ds good = record { sent = record { each = good.sent.each }; again = good.again }
 
-batch_good : (w : Setting) (i j : ℕ) (after : Option ℕ) (end : ℕ) (p : Peers) (ds : List Deed) → Good w p ds
-    → Good w (sends_batch i j after end p).peers (pushed (sends_batch i j after end p).deeds ds)
-batch_good w i j after end p ds good = resends_good w i j (parts_are.Batch after end) _ ds (pending_good w i j _ p ds good)
+batch_good : (w : Setting) (i j : ℕ) (after : Option ℕ) (end most : ℕ) (p : Peers) (ds : List Deed) → Good w p ds
+    → Good w (sends_batch i j after end most p).peers (pushed (sends_batch i j after end most p).deeds ds)
+batch_good w i j after end most p ds good = resends_good w i j (parts_are.Batch after end most) _ ds (pending_good w i j _ p ds good)
 
 replied_good : (w : Setting) (rs : List Sent) (p : Peers) (ds : List Deed) → Good w p ds → Good w p (pushed (map Replied rs) ds)
 replied_good w [] p ds good = good
@@ -146,11 +146,11 @@ replied_good w (r ∷ rs) p ds good = replied_good w rs p (Replied r ∷ ds) (re
 acked_good : (w : Setting) (i j seq : ℕ) (p : Peers) (ds : List Deed) → Good w p ds → Good w p (Acked i j seq ∷ ds)
 acked_good w i j seq p ds good = record { sent = record { each = good.sent.each }; again = good.again }
 
-marked_good : (w : Setting) (i j : ℕ) (mark : Option Mark) (p : Peers) (ds : List Deed) → Good w p ds → Good w (with_mark i j mark p) ds
+marked_good : (w : Setting) (i j : ℕ) (mark : Option Early) (p : Peers) (ds : List Deed) → Good w p ds → Good w (with_mark i j mark p) ds
 marked_good w i j mark p ds good = record { sent = record { each = good.sent.each }; again = good.again }
 
-asked_good : (w : Setting) (i j : ℕ) (p : Peers) (ds : List Deed) → Good w p ds → Good w (with_mark i j None p) (Wished i j ∷ ds)
-asked_good w i j p ds good = record { sent = record { each = good.sent.each }; again = good.again }
+asked_good : (w : Setting) (i j seq : ℕ) (p : Peers) (ds : List Deed) → Good w p ds → Good w (with_mark i j None p) (Wished i j seq ∷ ds)
+asked_good w i j seq p ds good = record { sent = record { each = good.sent.each }; again = good.again }
 
 -- ---- items that are no acknowledgement
 
@@ -250,7 +250,8 @@ goes_on_good : (w : Setting) (i j seq : ℕ) (pending : Option Pending) (p : Pee
     → Good w (goes_on i j seq pending p).peers (pushed (goes_on i j seq pending p).deeds ds)
 goes_on_good w i j seq None p ds good = good
 goes_on_good w i j seq (Some pending) p ds good =
-    either_good w (sends_batch i j (Some seq) pending.end p) (nothing_more p) ds (pending.last == seq) (batch_good w i j (Some seq) pending.end p ds good) good
+    either_good w (sends_batch i j (Some seq) pending.end most_batch_bytes p) (nothing_more p) ds (pending.last == seq)
+    (batch_good w i j (Some seq) pending.end most_batch_bytes p ds good) good
 
 acked_so_good : (w : Setting) (version : FrameVersion) (i j seq : ℕ) (p : Peers) (ds : List Deed) → Good w (acknowledged i j seq p) ds
     → Good w (acked_so version i j seq p).peers (pushed (acked_so version i j seq p).deeds ds)
@@ -263,7 +264,21 @@ connected_good : (w : Setting) (version : FrameVersion) (i j : ℕ) (p : Peers) 
     → Good w (connected version i j p).peers (pushed (connected version i j p).deeds ds)
 connected_good w One i j p ds good = resends_good w i j parts_are.All p ds good
 connected_good w Two i j p ds good = resends_good w i j parts_are.All p ds good
-connected_good w Three i j p ds good = batch_good w i j None _ p ds good
+connected_good w Three i j p ds good = batch_good w i j None _ most_batch_bytes p ds good
+
+-- a note that asks for more
+begins_unless_good : (w : Setting) (i j seq : ℕ) (pending : Option Pending) (p : Peers) (ds : List Deed) → Good w p ds
+    → Good w (begins_unless i j seq pending p).peers (pushed (begins_unless i j seq pending p).deeds ds)
+begins_unless_good w i j seq None p ds good = batch_good w i j (before seq) _ 0 p ds good
+begins_unless_good w i j seq (Some pending) p ds good =
+    either_good w (nothing_more (with_pending i j (Some (record { last = pending.last; end = newest_in (p.keeping i j) })) p)) (begins_at i j seq p) ds
+    (nat_lt pending.last seq) (pending_good w i j _ p ds good) (batch_good w i j (before seq) _ 0 p ds good)
+
+asked_so_good : (w : Setting) (version : FrameVersion) (i j seq : ℕ) (p : Peers) (ds : List Deed) → Good w p ds
+    → Good w (asked_so version i j seq p).peers (pushed (asked_so version i j seq p).deeds ds)
+asked_so_good w One i j seq p ds good = resends_good w i j parts_are.All p ds good
+asked_so_good w Two i j seq p ds good = resends_good w i j parts_are.All p ds good
+asked_so_good w Three i j seq p ds good = begins_unless_good w i j seq (p.pending i j) p ds good
 
 -- what a note leaves
 note_good : (w : Setting) (version : FrameVersion) (to : ℕ) (bytes : List ℕ) (p : Peers) (ds : List Deed) (said : Option Note) → w.is_correct to ≡ true → is_note bytes ≡ true
@@ -273,8 +288,8 @@ note_good w version to bytes p ds None here note is good =
     came_good w (items.Frame to bytes) p ds (λ i j seq. acks_none w to bytes i j seq (ap (λ (o : Option Note). says_so o j seq) is)) good
 note_good w version to bytes p ds (Some (notes.Ack from number)) here note is good =
     acked_so_good w version to from number p (Came false (items.Frame to bytes) ∷ ds) (ack_good w to from number bytes p ds (acks_is w to from number bytes here note is) good)
-note_good w version to bytes p ds (Some (notes.Again from)) here note is good =
-    resends_good w to from (front_of version (p.keeping to from)) p (Came false (items.Frame to bytes) ∷ ds)
+note_good w version to bytes p ds (Some (notes.Again from number)) here note is good =
+    asked_so_good w version to from number p (Came false (items.Frame to bytes) ∷ ds)
     (came_good w (items.Frame to bytes) p ds (λ i j seq. acks_none w to bytes i j seq (ap (λ (o : Option Note). says_so o j seq) is)) good)
 
 -- what a frame leaves that is no note
@@ -282,9 +297,9 @@ opened_good : (w : Setting) (es : List Event) (to : ℕ) (bytes : List ℕ) (p :
     → Good w (opened_so w es to bytes p said).peers (pushed (opened_so w es to bytes p said).deeds ds)
 opened_good w es to bytes p ds (Err fault) good = good
 opened_good w es to bytes p ds (Ok o) good =
-    either_good w (nothing_more (with_mark to o.from (Some (mark_at w (events.Frame to bytes ∷ es) to o.from)) p)) (record { deeds = Acked to o.from o.seq ∷ []; peers = p })
+    either_good w (nothing_more (marked_early to o.from o.seq (mark_at w (events.Frame to bytes ∷ es) to o.from) p)) (record { deeds = Acked to o.from o.seq ∷ []; peers = p })
     ds (is_deferred (seen_of w es (events.Frame to bytes)))
-    (marked_good w to o.from (Some (mark_at w (events.Frame to bytes ∷ es) to o.from)) p ds good) (acked_good w to o.from o.seq p ds good)
+    (marked_good w to o.from (Some (early_with (p.marks to o.from) (mark_at w (events.Frame to bytes ∷ es) to o.from) o.seq)) p ds good) (acked_good w to o.from o.seq p ds good)
 
 abbrev pub did_so : Bool → Bool → Outcome → Waiting → Outcome
 did_so here note did ws = if here then (if note then silent [] ws else did) else silent [] ws
@@ -333,7 +348,7 @@ up_good w version at peer p ds false good = good
 round_good : (w : Setting) (past : List Event) (x : Round) (s : Serving) (ds : List Deed) → Good w s.peers ds → RoundGood w past x s ds
 round_good w past (Began item) s ds good = plain_good w (so_far past s) (first_does w (so_far past s) item s.waiting) s.peers ds good
 round_good w past (Turned i) s ds good = plain_good w (so_far past s) (event_called w (so_far past s) i (events.Turn i) s.waiting) s.peers ds good
-round_good w past (Reminded i j) s ds good = asked_good w i j s.peers ds good
+round_good w past (Reminded i j) s ds good = asked_good w i j _ s.peers ds good
 round_good w past (Took (items.Frame to bytes)) s ds good =
     frame_good w (so_far past s) to bytes s.waiting s.peers ds (w.is_correct to) (is_note bytes) refl refl good
 round_good w past (Took (items.Client at conn bytes)) s ds good =
@@ -372,7 +387,7 @@ connected_behind w (Made made) a b i j frame f is = by_first (is_first made i j 
     by_first false is = f is
 connected_behind w (Resent k l other) a b i j frame f is = f is
 connected_behind w (Acked k l seq) a b i j frame f is = f is
-connected_behind w (Wished k l) a b i j frame f is = f is
+connected_behind w (Wished k l seq) a b i j frame f is = f is
 connected_behind w (Replied sent) a b i j frame f is = f is
 
 open_behind : (w : Setting) (d : Deed) (a b : List Deed) → StayOpen w a b → AreOpen w (d ∷ a) → AreOpen w (d ∷ b)
@@ -380,7 +395,7 @@ open_behind w (Came now item) a b stay all = stay.again all
 open_behind w (Made f) a b stay all = stay.again all
 open_behind w (Resent i j frame) a b stay all = (stay.connected i j frame all.0, stay.again all.1)
 open_behind w (Acked i j seq) a b stay all = stay.again all
-open_behind w (Wished i j) a b stay all = stay.again all
+open_behind w (Wished i j seq) a b stay all = stay.again all
 open_behind w (Replied sent) a b stay all = stay.again all
 
 and_turned : (a b c : Bool) → (a && (b && c)) ≡ true → (b && (a && c)) ≡ true
@@ -398,7 +413,7 @@ connected_sooner w now item (Came later other) ds i j frame is =
 connected_sooner w now item (Made f) ds i j frame is = or_before (not (acks w item i j (seq_of frame))) (is_first f i j frame) (is_connected w i j frame ds) is
 connected_sooner w now item (Resent k l other) ds i j frame is = is
 connected_sooner w now item (Acked k l seq) ds i j frame is = is
-connected_sooner w now item (Wished k l) ds i j frame is = is
+connected_sooner w now item (Wished k l seq) ds i j frame is = is
 connected_sooner w now item (Replied sent) ds i j frame is = is
 
 -- a deed that sends nothing again
@@ -410,7 +425,7 @@ open_sooner w now item (Came later other) ds new all = all
 open_sooner w now item (Made f) ds new all = all
 open_sooner w now item (Resent i j frame) ds new all = absurd (cc)
 open_sooner w now item (Acked i j seq) ds new all = all
-open_sooner w now item (Wished i j) ds new all = all
+open_sooner w now item (Wished i j seq) ds new all = all
 open_sooner w now item (Replied sent) ds new all = all
 
 open_stay : (w : Setting) → StaysWhere IsNew (StayOpen w)

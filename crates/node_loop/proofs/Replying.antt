@@ -79,8 +79,8 @@ besides_none keys (Resent i j frame ∷ more) all =
     rw (reverse_cons (act_of keys (Resent i j frame)) (map (act_of keys) more), replies_more (reverse (map (act_of keys) more)) (act_of keys (Resent i j frame) ∷ []), besides_none keys more all.1) refl
 besides_none keys (Acked i j seq ∷ more) all =
     rw (reverse_cons (act_of keys (Acked i j seq)) (map (act_of keys) more), replies_more (reverse (map (act_of keys) more)) (act_of keys (Acked i j seq) ∷ []), besides_none keys more all.1) refl
-besides_none keys (Wished i j ∷ more) all =
-    rw (reverse_cons (act_of keys (Wished i j)) (map (act_of keys) more), replies_more (reverse (map (act_of keys) more)) (act_of keys (Wished i j) ∷ []), besides_none keys more all.1) refl
+besides_none keys (Wished i j seq ∷ more) all =
+    rw (reverse_cons (act_of keys (Wished i j seq)) (map (act_of keys) more), replies_more (reverse (map (act_of keys) more)) (act_of keys (Wished i j seq) ∷ []), besides_none keys more all.1) refl
 besides_none keys (Replied sent ∷ more) all = absurd all.0
 
 news_replies : (w : Setting) (es : List Event) (did : Outcome) (more : Brought) → AllByRecursion IsBesides more.deeds

@@ -23,11 +23,11 @@ use Rattle.world_model.proofs.Left.{get_set_same, get_set_other}
 use Rattle.node_loop.specs.declared.house.House.{House}
 use Rattle.node_loop.specs.declared.output.More.TheVariants as mores
 use Rattle.node_loop.specs.declared.peers.Keeper.{Keeper}
-use Rattle.node_loop.specs.declared.peers.Mark.{Mark}
+use Rattle.node_loop.specs.declared.peers.Early.{Early}
 use Rattle.node_loop.specs.declared.peers.Pending.{Pending}
 use Rattle.node_loop.specs.declared.peers.Pair.{Pair}
 use Rattle.node_loop.specs.Waiting.{Waiting, nobody}
-use Rattle.node_loop.specs.Peers.{Peers, no_peers, is_pair, with_mark}
+use Rattle.node_loop.specs.Peers.{Peers, no_peers, is_pair, with_mark, asked_from}
 use Rattle.node_loop.specs.PeersStanding.{AreKept, ArePending, IsKeeper}
 use Rattle.node_loop.specs.Deeds.{sends}
 use Rattle.node_loop.specs.Resending.{peers_due, due, asks_for_more}
@@ -160,9 +160,14 @@ pub not_none : (xs : List Pair) → nat_lt 0 (length xs) ≡ true → xs ≡ [] 
 not_none xs some none = both_ways (nat_lt 0 (length xs)) (ap (λ (ys : List Pair). nat_lt 0 (length ys)) none) some
 
 -- the note that asks a peer
-pub again_is : (w : Setting) (at peer : ℕ) (bytes : List ℕ) (k : KeyRow) (p : Peers) → k ≡ w.keys at → bytes ≡ again_note k peer
-    → IsMore w at (mores.Note peer bytes) (asks_for_more at peer p)
-again_is w at peer bytes k p same is = (ap (λ (b : List ℕ). sends at peer b ∷ []) (sym (is ∙ ap (λ (x : KeyRow). again_note x peer) same)), refl)
+pub again_is : (w : Setting) (at peer seq : ℕ) (bytes : List ℕ) (k : KeyRow) (keeper : Keeper) (p : Peers) → k ≡ w.keys at → bytes ≡ again_note k peer seq
+    → seq ≡ asked_from keeper.version (slice_index_or keeper.marks.items peer None) → IsKeeper w.mode.version w.numbers.n at keeper p → peer < w.numbers.n
+    → IsMore w at (mores.Note peer bytes) (asks_for_more w.mode.version at peer p)
+again_is w at peer seq bytes k keeper p same is from keeps below =
+    let number : seq ≡ asked_from w.mode.version (p.marks at peer) = from ∙ ap₂ asked_from keeps.version_is (keeps.marked.each peer below) in
+    let said : bytes ≡ again_note (w.keys at) peer (asked_from w.mode.version (p.marks at peer)) =
+    is ∙ ap₂ (λ (x : KeyRow) (n : ℕ). again_note x peer n) same number in
+    (ap (λ (b : List ℕ). sends at peer b ∷ []) (sym said), refl)
 
 -- ---- a mark is set, or is none any more
 
@@ -176,14 +181,14 @@ is_that_pair : (i j : ℕ) → is_pair i j i j ≡ true
 is_that_pair i j = ap₂ (λ (s t : Bool). s && t) (eq-eqb i i refl) (eq-eqb j j refl)
 
 -- the keeper of a replica with another mark for a peer
-pub marked_there : (version : FrameVersion) (n i peer : ℕ) (mark : Option Mark) (old new : Keeper) (p : Peers) → IsKeeper version n i old p → new ≡ record old { marks = new.marks }
+pub marked_there : (version : FrameVersion) (n i peer : ℕ) (mark : Option Early) (old new : Keeper) (p : Peers) → IsKeeper version n i old p → new ≡ record old { marks = new.marks }
     → new.marks.items ≡ slice_set old.marks.items peer mark → IsKeeper version n i new (with_mark i peer mark p)
 marked_there version n i peer mark old new p is rest set = record {
   version_is = ap (λ (k : Keeper). k.version) rest ∙ is.version_is;
   kept = subst (λ (k : Keepings). AreKept version n i k p.keeping) (sym (ap (λ (k : Keeper). k.resume) rest)) is.kept;
   marked = record {
     many = ap length set ∙ (length-set old.marks.items peer mark ∙ is.marked.many);
-    each = λ j within. ap (λ (marks : List (Option Mark)). slice_index_or marks j None) set ∙ elim (cases_eq j peer) [
+    each = λ j within. ap (λ (marks : List (Option Early)). slice_index_or marks j None) set ∙ elim (cases_eq j peer) [
       | inl one ↦
           let many = is.marked.many in
           let lt : peer < length old.marks.items = omega arith in
@@ -199,7 +204,7 @@ marked_there version n i peer mark old new p is rest set = record {
 }
 
 -- that of another replica is as it was
-pub marked_elsewhere : (version : FrameVersion) (n i k peer : ℕ) (mark : Option Mark) (keeper : Keeper) (p : Peers) → (k ≡ i → ⊥) → IsKeeper version n k keeper p
+pub marked_elsewhere : (version : FrameVersion) (n i k peer : ℕ) (mark : Option Early) (keeper : Keeper) (p : Peers) → (k ≡ i → ⊥) → IsKeeper version n k keeper p
     → IsKeeper version n k keeper (with_mark i peer mark p)
 marked_elsewhere version n i k peer mark keeper p other is = record {
   version_is = is.version_is;
@@ -255,7 +260,7 @@ fresh_keeper version n i keeper is = record {
   };
   marked = record {
     many = ap length is.marks ∙ length-replicate n None;
-    each = λ j within. ap (λ (marks : List (Option Mark)). slice_index_or marks j None) is.marks ∙ get_or-replicate n j None None within;
+    each = λ j within. ap (λ (marks : List (Option Early)). slice_index_or marks j None) is.marks ∙ get_or-replicate n j None None within;
   };
   pending = record {
     many = ap length is.pending ∙ length-replicate n None;

@@ -15,13 +15,13 @@ use Rattle.world_model.specs.World.{Setting}
 use Rattle.world_model.specs.MadeOrder.{MadeFrame}
 
 -- an item came, by the call that may wait or, at `true`, by the one that never does; a frame went out for the first time, one went out again, an
--- acknowledgement or a wish for more did, or a reply
+-- acknowledgement, or a wish for more from a number on, did, or a reply
 pub data Deed : Type 0 where
   Came : Bool → LinkItem → Deed
   Made : MadeFrame → Deed
   Resent : ℕ → ℕ → List ℕ → Deed
   Acked : ℕ → ℕ → ℕ → Deed
-  Wished : ℕ → ℕ → Deed
+  Wished : ℕ → ℕ → ℕ → Deed
   Replied : Sent → Deed
 
 -- these, in their order, behind those before them
@@ -43,7 +43,7 @@ act_of keys (Came now item) = call_giving now item
 act_of keys (Made f) = sends f.from f.to f.bytes
 act_of keys (Resent i j frame) = sends i j frame
 act_of keys (Acked i j seq) = sends i j (ack_note (keys i) j seq)
-act_of keys (Wished i j) = sends i j (again_note (keys i) j)
+act_of keys (Wished i j seq) = sends i j (again_note (keys i) j seq)
 act_of keys (Replied sent) = Replies sent
 
 -- one of these is a frame that goes out again
@@ -63,7 +63,7 @@ firsts_in (Came now item ∷ ds) = firsts_in ds
 firsts_in (Made f ∷ ds) = f ∷ firsts_in ds
 firsts_in (Resent i j frame ∷ ds) = firsts_in ds
 firsts_in (Acked i j seq ∷ ds) = firsts_in ds
-firsts_in (Wished i j ∷ ds) = firsts_in ds
+firsts_in (Wished i j seq ∷ ds) = firsts_in ds
 firsts_in (Replied sent ∷ ds) = firsts_in ds
 
 -- the item is an acknowledgement, by j to replica i, which is here, of the frame with this number
@@ -85,5 +85,5 @@ is_connected w i j frame (Came now item ∷ ds) = not (acks w item i j (seq_of f
 is_connected w i j frame (Made f ∷ ds) = is_first f i j frame || is_connected w i j frame ds
 is_connected w i j frame (Resent a b other ∷ ds) = is_connected w i j frame ds
 is_connected w i j frame (Acked a b seq ∷ ds) = is_connected w i j frame ds
-is_connected w i j frame (Wished a b ∷ ds) = is_connected w i j frame ds
+is_connected w i j frame (Wished a b seq ∷ ds) = is_connected w i j frame ds
 is_connected w i j frame (Replied sent ∷ ds) = is_connected w i j frame ds

@@ -42,7 +42,7 @@ EachAck P (Came now item ∷ ds) = EachAck P ds
 EachAck P (Made f ∷ ds) = EachAck P ds
 EachAck P (Resent i j frame ∷ ds) = EachAck P ds
 EachAck P (Acked i j seq ∷ ds) = P i j seq ds × EachAck P ds
-EachAck P (Wished i j ∷ ds) = EachAck P ds
+EachAck P (Wished i j seq ∷ ds) = EachAck P ds
 EachAck P (Replied sent ∷ ds) = EachAck P ds
 
 abbrev pub AcksAreOfRounds : Type 0

@@ -99,7 +99,7 @@ AreOpen w (Came now item ∷ ds) = AreOpen w ds
 AreOpen w (Made f ∷ ds) = AreOpen w ds
 AreOpen w (Resent i j frame ∷ ds) = (is_connected w i j frame ds ≡ true) × AreOpen w ds
 AreOpen w (Acked i j seq ∷ ds) = AreOpen w ds
-AreOpen w (Wished i j ∷ ds) = AreOpen w ds
+AreOpen w (Wished i j seq ∷ ds) = AreOpen w ds
 AreOpen w (Replied sent ∷ ds) = AreOpen w ds
 
 abbrev pub ResendsAreOpen : Type 0
@@ -134,7 +134,7 @@ AreEarned w es (Came now item ∷ ds) = AreEarned w es ds
 AreEarned w es (Made f ∷ ds) = AreEarned w es ds
 AreEarned w es (Resent i j frame ∷ ds) = AreEarned w es ds
 AreEarned w es (Acked i j seq ∷ ds) = IsEarned w es i j seq ds × AreEarned w es ds
-AreEarned w es (Wished i j ∷ ds) = AreEarned w es ds
+AreEarned w es (Wished i j seq ∷ ds) = AreEarned w es ds
 AreEarned w es (Replied sent ∷ ds) = AreEarned w es ds
 
 abbrev pub AcksAreEarned : Type 0

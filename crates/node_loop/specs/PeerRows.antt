@@ -3,7 +3,8 @@ use Rattle.std.specs.Prelude.{◌≡◌, [], ◌∷◌, Some, None, true, false,
 use Rattle.ritas_base.specs.declared.mode.FrameVersion.TheVariants.{One, Two, Three}
 use Rattle.world_model.specs.MadeOrder.{MadeFrame}
 use Rattle.keyed_channel.specs.declared.note.Note.TheVariants.{Ack, Again}
-use Rattle.node_loop.specs.Peers.{Peers, no_peers, keep_all, with_pending, has_come_further}
+use Rattle.node_loop.specs.Peers.{Peers, no_peers, keep_all, with_pending, has_come_further, early_with, asked_from}
+use Rattle.node_loop.specs.declared.peers.Mark.{Mark}
 use Rattle.node_loop.specs.Deeds.{Resent}
 use Rattle.node_loop.specs.Resending.{connected, noted_so}
 
@@ -28,7 +29,7 @@ up_rows : ((connected One 0 1 kept_both).deeds ≡ Resent 0 1 zero.bytes ∷ Res
 up_rows = (refl, refl)
 
 -- when it asks for what it didn't take, they do too
-again_row : (noted_so Two 0 kept_both (Some (Again 1))).deeds ≡ Resent 0 1 zero.bytes ∷ Resent 0 1 one.bytes ∷ []
+again_row : (noted_so Two 0 kept_both (Some (Again 1 0))).deeds ≡ Resent 0 1 zero.bytes ∷ Resent 0 1 one.bytes ∷ []
 again_row = refl
 
 -- what it acknowledged doesn't; another's acknowledgement, one of another number and what is no note change nothing
@@ -39,6 +40,12 @@ ack_rows : ((noted_so Two 0 kept_both (Some (Ack 1 0))).peers.keeping 0 1 ≡ re
 ack_rows = (refl, refl, refl, refl)
 
 -- ---- version 3
+
+abbrev at_three : Mark
+at_three = record { progress = 3; held = 50 }
+
+abbrev at_four : Mark
+at_four = record { progress = 4; held = 50 }
 
 -- a third frame, of number 2
 abbrev two : MadeFrame
@@ -70,10 +77,25 @@ over_rows : ((noted_so Three 0 (with_pending 0 1 (Some (record { last = 2; end =
     × ((noted_so Three 0 (with_pending 0 1 (Some (record { last = 2; end = 2 })) kept_three) (Some (Ack 1 2))).peers.pending 0 1 ≡ None)
 over_rows = (refl, refl)
 
--- a note that asks again brings the batch at the front, and how far it went stays
-again_rows : ((noted_so Three 0 under_way (Some (Again 1))).deeds ≡ Resent 0 1 zero.bytes ∷ Resent 0 1 one.bytes ∷ Resent 0 1 two.bytes ∷ [])
-    × ((noted_so Three 0 under_way (Some (Again 1))).peers.pending 0 1 ≡ Some (record { last = 0; end = 1 }))
-again_rows = (refl, refl)
+-- a note that asks again from a number on brings one frame, and with its acknowledgement those behind it go out, up to the newest
+again_rows : ((noted_so Three 0 kept_three (Some (Again 1 1))).deeds ≡ Resent 0 1 one.bytes ∷ [])
+    × ((noted_so Three 0 kept_three (Some (Again 1 1))).peers.pending 0 1 ≡ Some (record { last = 1; end = 2 }))
+    × ((noted_so Three 0 under_way (Some (Again 1 0))).deeds ≡ Resent 0 1 zero.bytes ∷ [])
+    × ((noted_so Three 0 under_way (Some (Again 1 0))).peers.pending 0 1 ≡ Some (record { last = 0; end = 2 }))
+    × ((noted_so Three 0 kept_three (Some (Again 1 3))).deeds ≡ [])
+again_rows = (refl, refl, refl, refl, refl)
+
+-- where batches are under way that will come to that number none goes out beside them, but they go on up to the newest
+again_later_rows : ((noted_so Three 0 under_way (Some (Again 1 1))).deeds ≡ [])
+    × ((noted_so Three 0 under_way (Some (Again 1 1))).peers.pending 0 1 ≡ Some (record { last = 0; end = 2 }))
+again_later_rows = (refl, refl)
+
+-- of frames that came too early the least number is asked for in version 3, and in the others all are
+early_rows : (asked_from Three (Some (early_with (Some (early_with None at_three 7)) at_three 5)) ≡ 5)
+    × (asked_from Three (Some (early_with (Some (early_with None at_three 5)) at_four 7)) ≡ 5)
+    × (early_with (Some (early_with None at_three 5)) at_four 7 ≡ record { mark = at_four; least = 5 })
+    × (asked_from One (Some (early_with None at_three 7)) ≡ 0) × (asked_from Two (Some (early_with None at_three 7)) ≡ 0)
+early_rows = (refl, refl, refl, refl, refl)
 
 -- a marked peer is asked when fewer bytes are held for it, or when the replica has come further
 due_rows : (has_come_further (record { progress = 3; held = 50 }) (record { progress = 3; held = 50 }) ≡ false)

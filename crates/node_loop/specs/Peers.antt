@@ -2,20 +2,22 @@
 use Rattle.std.specs.Prelude.{ℕ, ◌+◌, ◌==◌, ◌&&◌, ◌||◌, Bool, false, nat_lt, List, [], ◌∷◌, ◌++◌, length, Option, Some, None, if◌then◌else◌}
 use Rattle.link_resume.specs.declared.kept.Kept.{Kept}
 use Rattle.ritas_base.specs.declared.mode.FrameVersion.{FrameVersion}
+use Rattle.ritas_base.specs.declared.mode.FrameVersion.TheVariants.{One, Two, Three}
 use Rattle.link_resume.specs.Lists.{bytes_in, most_kept, may_have, all_but}
 use Rattle.keyed_channel.specs.Frames.{seq_of}
 use Rattle.world_model.specs.MadeOrder.{MadeFrame}
 use Rattle.node_loop.specs.declared.peers.Mark.{Mark}
+use Rattle.node_loop.specs.declared.peers.Early.{Early}
 use Rattle.node_loop.specs.declared.peers.Pending.{Pending}
 
 -- the frames of a replica that wait for a peer to acknowledge them
 abbrev pub Keeping : Type 0
 Keeping = ℕ → ℕ → List Kept
 
--- the peers of a replica that are to be asked to send again: how far it had come, and how many bytes it held for the peer, when a frame of
--- that peer came too early
+-- the peers of a replica that are to be asked to send again: of those whose frames came too early how far it had come, and how many bytes it held
+-- for the peer, when the newest such frame came, and the least number of such a frame
 abbrev pub Marks : Type 0
-Marks = ℕ → ℕ → Option Mark
+Marks = ℕ → ℕ → Option Early
 
 -- the peers of a replica that are sent what was kept for them a batch at a time: the number of the newest batch's last frame, and that of
 -- the last frame which is to go out so
@@ -38,7 +40,7 @@ abbrev pub with_list : ℕ → ℕ → List Kept → Peers → Peers
 with_list i j kept p = record p { keeping = λ a b. if is_pair i j a b then kept else p.keeping a b }
 
 -- the mark that j has at i is this
-abbrev pub with_mark : ℕ → ℕ → Option Mark → Peers → Peers
+abbrev pub with_mark : ℕ → ℕ → Option Early → Peers → Peers
 with_mark i j mark p = record p { marks = λ a b. if is_pair i j a b then mark else p.marks a b }
 
 -- so far what was kept at i went out again to j
@@ -69,6 +71,22 @@ acknowledged i j seq p = with_list i j (all_but seq (p.keeping i j)) p
 abbrev pub has_come_further : Mark → Mark → Bool
 has_come_further was now = nat_lt now.held was.held || nat_lt was.progress now.progress
 
-abbrev pub is_due_of : Option Mark → Mark → Bool
+abbrev pub is_due_of : Option Early → Mark → Bool
 is_due_of None now = false
-is_due_of (Some was) now = has_come_further was now
+is_due_of (Some early) now = has_come_further early.mark now
+
+-- a frame of this number came too early, when the replica stood so
+abbrev pub early_with : Option Early → Mark → ℕ → Early
+early_with None mark seq = record { mark = mark; least = seq }
+early_with (Some early) mark seq = record { mark = mark; least = if nat_lt seq early.least then seq else early.least }
+
+-- so it is of a frame of j
+abbrev pub marked_early : ℕ → ℕ → ℕ → Mark → Peers → Peers
+marked_early i j seq mark p = with_mark i j (Some (early_with (p.marks i j) mark seq)) p
+
+-- from which number on the peer is asked: in versions 1 and 2 from the first
+abbrev pub asked_from : FrameVersion → Option Early → ℕ
+asked_from One early = 0
+asked_from Two early = 0
+asked_from Three None = 0
+asked_from Three (Some early) = early.least

@@ -7,7 +7,7 @@ use Rattle.link_resume.specs.Lists.{Keepings, kept_for, most_kept}
 use Rattle.replica.specs.Out.{OutFrame}
 use Rattle.world_model.specs.MadeOrder.{MadeFrame}
 use Rattle.node_loop.specs.declared.peers.Keeper.{Keeper}
-use Rattle.node_loop.specs.declared.peers.Mark.{Mark}
+use Rattle.node_loop.specs.declared.peers.Early.{Early}
 use Rattle.node_loop.specs.declared.peers.Pending.{Pending}
 use Rattle.node_loop.specs.Peers.{Keeping, Marks, Pendings, Peers}
 use Rattle.node_loop.specs.Deeds.{sends}
@@ -19,7 +19,7 @@ pub record AreKept (version : FrameVersion) (n i : ℕ) (kept : Keepings) (keepi
   pub each : (j : ℕ) → j < n → kept_for kept.lists j ≡ keeping i j
 
 -- these are the marks of its peers
-pub record AreMarked (n i : ℕ) (list : List (Option Mark)) (marks : Marks) : Type 0 where
+pub record AreMarked (n i : ℕ) (list : List (Option Early)) (marks : Marks) : Type 0 where
   pub many : length list ≡ n
   pub each : (j : ℕ) → j < n → slice_index_or list j None ≡ marks i j
 

@@ -1,5 +1,5 @@
 -- What comes of an item for the peers of the replicas that are here: acknowledgements, and frames that are sent again.
-use Rattle.std.specs.Prelude.{ℕ, ◌+◌, ◌==◌, ◌&&◌, Bool, true, false, nat_lt, List, [], ◌∷◌, map, filter, sum_by, Option, Some, None, Result, Ok, Err, if◌then◌else◌}
+use Rattle.std.specs.Prelude.{ℕ, zero, suc, ◌+◌, ◌==◌, ◌&&◌, Bool, true, false, nat_lt, List, [], ◌∷◌, map, filter, sum_by, Option, Some, None, Result, Ok, Err, if◌then◌else◌}
 use Rattle.std.specs.List.{flat_map}
 use Rattle.ritas_base.specs.declared.event.Event.{Event}
 use Rattle.ritas_base.specs.declared.event.Event.TheVariants as events
@@ -24,7 +24,7 @@ use Rattle.replica.specs.declared.refusal.Refusal.TheVariants as refusals
 use Rattle.world_model.specs.declared.seen.Seen.{Seen}
 use Rattle.world_model.specs.declared.seen.Seen.TheVariants as seen
 use Rattle.world_model.specs.World.{Setting, rules_at, states_of, seen_of}
-use Rattle.node_loop.specs.Peers.{Peers, with_mark, with_pending, acknowledged, is_due_of}
+use Rattle.node_loop.specs.Peers.{Peers, with_mark, with_pending, acknowledged, is_due_of, marked_early, asked_from}
 use Rattle.node_loop.specs.declared.peers.Mark.{Mark}
 use Rattle.node_loop.specs.declared.output.Part.{Part}
 use Rattle.node_loop.specs.declared.output.Part.TheVariants as parts_are
@@ -66,15 +66,16 @@ is_deferred _ = false
 abbrev pub opened_so : Setting → List Event → ℕ → List ℕ → Peers → Result Opening OpenFault → Brought
 opened_so w es i bytes p (Err fault) = nothing_more p
 opened_so w es i bytes p (Ok o) = if is_deferred (seen_of w es (events.Frame i bytes))
-    then nothing_more (with_mark i o.from (Some (mark_at w (events.Frame i bytes ∷ es) i o.from)) p)
+    then nothing_more (marked_early i o.from o.seq (mark_at w (events.Frame i bytes ∷ es) i o.from) p)
     else record { deeds = Acked i o.from o.seq ∷ []; peers = p }
 
 -- ---- what goes out again
 
--- all that is kept for a peer, or a batch of it: the one at the front of the frames behind a number, if there is one, up to the last one
+-- all that is kept for a peer, or a batch of it, of at most so many bytes: the one at the front of the frames behind a number, if there is one, up
+-- to the last one
 abbrev pub part_of : Part → List Kept → List Kept
 part_of parts_are.All kept = kept
-part_of (parts_are.Batch after last) kept = batch (between after last kept)
+part_of (parts_are.Batch after last most) kept = batch most (between after last kept)
 
 -- such a part of what is kept for a peer is sent again
 abbrev pub resends : ℕ → ℕ → Part → Peers → Brought
@@ -84,11 +85,9 @@ resends i j part p = record { deeds = map (λ k. Resent i j k.frame) (part_of pa
 abbrev pub newest_in : List Kept → ℕ
 newest_in kept = last_seq 0 kept
 
--- the part with which sending again begins: in version 3 a batch
-abbrev pub front_of : FrameVersion → List Kept → Part
-front_of One kept = parts_are.All
-front_of Two kept = parts_are.All
-front_of Three kept = parts_are.Batch None (newest_in kept)
+-- a batch that wasn't asked for has at most so many bytes, or one frame
+abbrev pub most_batch_bytes : ℕ
+most_batch_bytes = 16384
 
 -- how far it went with this batch, of those up to a last one; nowhere where it has no frame
 abbrev pub reached : ℕ → List Kept → Option Pending
@@ -97,16 +96,16 @@ reached end (k ∷ ks) = Some (record { last = last_seq k.seq ks; end = end })
 
 -- a batch is sent again, of the frames behind a number, if there is one, up to a last one; with the acknowledgement of its own last the next
 -- one follows
-abbrev pub sends_batch : ℕ → ℕ → Option ℕ → ℕ → Peers → Brought
-sends_batch i j after end p =
-    resends i j (parts_are.Batch after end) (with_pending i j (reached end (batch (between after end (p.keeping i j)))) p)
+abbrev pub sends_batch : ℕ → ℕ → Option ℕ → ℕ → ℕ → Peers → Brought
+sends_batch i j after end most p =
+    resends i j (parts_are.Batch after end most) (with_pending i j (reached end (batch most (between after end (p.keeping i j)))) p)
 
 -- ---- a note, and a connection
 
 -- it was the last of a batch, and the next one follows
 abbrev pub goes_on : ℕ → ℕ → ℕ → Option Pending → Peers → Brought
 goes_on i j seq None p = nothing_more p
-goes_on i j seq (Some pending) p = if pending.last == seq then sends_batch i j (Some seq) pending.end p else nothing_more p
+goes_on i j seq (Some pending) p = if pending.last == seq then sends_batch i j (Some seq) pending.end most_batch_bytes p else nothing_more p
 
 -- replica i is told that j took the frame of a number
 abbrev pub acked_so : FrameVersion → ℕ → ℕ → ℕ → Peers → Brought
@@ -114,16 +113,38 @@ acked_so One i j seq p = nothing_more (acknowledged i j seq p)
 acked_so Two i j seq p = nothing_more (acknowledged i j seq p)
 acked_so Three i j seq p = goes_on i j seq (p.pending i j) (acknowledged i j seq p)
 
+-- the number before this one, if there is one
+abbrev pub before : ℕ → Option ℕ
+before zero = None
+before (suc seq) = Some seq
+
+-- what is kept for j goes out again from a number on, up to the newest: first a single frame
+abbrev pub begins_at : ℕ → ℕ → ℕ → Peers → Brought
+begins_at i j seq p = sends_batch i j (before seq) (newest_in (p.keeping i j)) 0 p
+
+-- where batches go out that will come to this number, nothing goes out beside them, and they are to go on up to the newest frame
+abbrev pub begins_unless : ℕ → ℕ → ℕ → Option Pending → Peers → Brought
+begins_unless i j seq None p = begins_at i j seq p
+begins_unless i j seq (Some pending) p = if nat_lt pending.last seq
+    then nothing_more (with_pending i j (Some (record { last = pending.last; end = newest_in (p.keeping i j) })) p)
+    else begins_at i j seq p
+
+-- replica i is asked by j to send again, from a number on
+abbrev pub asked_so : FrameVersion → ℕ → ℕ → ℕ → Peers → Brought
+asked_so One i j seq p = resends i j parts_are.All p
+asked_so Two i j seq p = resends i j parts_are.All p
+asked_so Three i j seq p = begins_unless i j seq (p.pending i j) p
+
 abbrev pub noted_so : FrameVersion → ℕ → Peers → Option Note → Brought
 noted_so version i p None = nothing_more p
 noted_so version i p (Some (notes.Ack from seq)) = acked_so version i from seq p
-noted_so version i p (Some (notes.Again from)) = resends i from (front_of version (p.keeping i from)) p
+noted_so version i p (Some (notes.Again from seq)) = asked_so version i from seq p
 
 -- a peer has a connection
 abbrev pub connected : FrameVersion → ℕ → ℕ → Peers → Brought
 connected One i j p = resends i j parts_are.All p
 connected Two i j p = resends i j parts_are.All p
-connected Three i j p = sends_batch i j None (newest_in (p.keeping i j)) p
+connected Three i j p = sends_batch i j None (newest_in (p.keeping i j)) most_batch_bytes p
 
 -- ---- an item
 
@@ -140,8 +161,8 @@ item_brings w es (items.Left at conn) p = nothing_more p
 item_brings w es items.End p = nothing_more p
 
 -- a marked peer is asked, and isn't marked any more
-abbrev pub asks_for_more : ℕ → ℕ → Peers → Brought
-asks_for_more i j p = record { deeds = Wished i j ∷ []; peers = with_mark i j None p }
+abbrev pub asks_for_more : FrameVersion → ℕ → ℕ → Peers → Brought
+asks_for_more version i j p = record { deeds = Wished i j (asked_from version (p.marks i j)) ∷ []; peers = with_mark i j None p }
 
 -- ---- who is to be asked
 

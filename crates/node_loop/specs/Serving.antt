@@ -151,7 +151,7 @@ outcome w past (Took item) s = item_does w (so_far past s) item s.waiting
 abbrev pub brings_peers : Setting → List Event → Round → Peers → Brought
 brings_peers w es (Began item) p = nothing_more p
 brings_peers w es (Turned i) p = nothing_more p
-brings_peers w es (Reminded i j) p = asks_for_more i j p
+brings_peers w es (Reminded i j) p = asks_for_more w.mode.version i j p
 brings_peers w es (Took item) p = item_brings w es item p
 
 abbrev pub brought : Setting → List Event → Round → Serving → Brought

@@ -98,7 +98,7 @@ impl<S: Service, E: Broadcast, C: Coin + Drop> House<S, E, C> {
     ghost use Rattle.node_loop.specs.declared.output.More.TheVariants as mores;
     ghost use Rattle.client_port.specs.Messages.{request_in};
     ghost use Rattle.node_loop.specs.Calls.{event_called, silent, submitted, asked_so, asks_so, queried, asks, if_here, item_does, first_does};
-    ghost use Rattle.node_loop.specs.Peers.{Peers, keep_all, with_mark};
+    ghost use Rattle.node_loop.specs.Peers.{Peers, keep_all, marked_early};
     ghost use Rattle.node_loop.specs.Queries.{FitsPiece, ItemFits};
     ghost use Rattle.node_loop.specs.Resending.{nothing_more, mark_at, is_deferred, noted_so, opened_so, item_brings};
     ghost use Rattle.node_loop.specs.Serving.{frames_made_by};
@@ -325,28 +325,29 @@ impl<S: Service, E: Broadcast, C: Coin + Drop> House<S, E, C> {
                     output.more = keeper.acked(from, seq);
                 }
             }
-            Some(Note::Again { from }) => {
-                if let Some(keeper) = self.keepers.get(place) {
-                    output.more = keeper.again(from);
+            Some(Note::Again { from, seq }) => {
+                if let Some(keeper) = self.keepers.get_mut(place) {
+                    output.more = keeper.asked(from, seq);
                 }
             }
             None => {}
         }
     }
 
-    // A peer is marked at the replica at a place, as that stands now.
-    fn mark(&mut self, place: usize, peer: u8)
+    // The sender of a frame that came too early is marked at the replica at a place, as that
+    // stands now.
+    fn mark(&mut self, place: usize, frame: FrameHeader)
         ensures marks { let m = meaning_of S.Service E.Broadcast C.Coin in
             (w : Setting) (es : List Event) (numbers : List ℕ) (ws : Waiting) (p : Peers) (at : ℕ)
             → HouseStands m w es numbers self.old ws p
             → slice_get numbers place ≡ Some at
             → HouseStands m w es numbers self.new ws
-            (with_mark at peer (Some (mark_at w es at peer)) p) }
+            (marked_early at frame.from frame.seq (mark_at w es at frame.from) p) }
     {
         if let Some(replica) = self.replicas.get(place) {
-            let mark = mark_of(replica, peer);
+            let mark = mark_of(replica, frame.from);
             if let Some(keeper) = self.keepers.get_mut(place) {
-                keeper.mark(peer, mark);
+                keeper.mark(frame.from, mark, frame.seq);
             }
         }
     }
@@ -391,7 +392,7 @@ impl<S: Service, E: Broadcast, C: Coin + Drop> House<S, E, C> {
             → slice_get numbers place ≡ Some at → is_answer_opened answer ≡ true
             → is_deferred (seen_answer answer) ≡ true
             → IfSome carried (λ frame. HouseStands m w es numbers self.new ws
-            (with_mark at frame.from (Some (mark_at w es at frame.from)) p)
+            (marked_early at frame.from frame.seq (mark_at w es at frame.from) p)
             × (output.new.more ≡ output.old.more)) }
         ensures takes { let m = meaning_of S.Service E.Broadcast C.Coin in
             (w : Setting) (es : List Event) (numbers : List ℕ) (at : ℕ)
@@ -409,7 +410,7 @@ impl<S: Service, E: Broadcast, C: Coin + Drop> House<S, E, C> {
         match carried {
             Some(frame) if is_opened(answer) => {
                 if is_deferred(answer) {
-                    self.mark(place, frame.from);
+                    self.mark(place, frame);
                 } else {
                     self.acknowledge(place, frame, output);
                 }

@@ -160,8 +160,8 @@ fn send_part<R: Net + Wait, L: Link>(
 {
     match part {
         Part::All => send_kept(rt, alloc, link, at, resume, peer),
-        Part::Batch { after, last } => {
-            let batch = resume.batch(peer, after, last);
+        Part::Batch { after, last, most } => {
+            let batch = resume.batch(peer, after, last, most);
             send_batch(rt, alloc, link, at, peer, batch)
         }
     }
@@ -314,7 +314,10 @@ fn is_nothing(resume: &Resume, peer: u8, part: Part) -> bool
 {
     match part {
         Part::All => resume.count(peer) == 0,
-        Part::Batch { after, last } => resume.batch(peer, after, last).next_frame().is_none(),
+        Part::Batch { after, last, most } => {
+            let mut batch = resume.batch(peer, after, last, most);
+            batch.next_frame().is_none()
+        }
     }
 }
 

@@ -209,10 +209,13 @@ impl<S: Service, E: Broadcast, C: Coin + Drop> House<S, E, C> {
     // The note that asks a peer of the replica at a place to send again.
     fn again_to(&self, place: usize, peer: u8) -> More
         ensures note { let m = meaning_of S.Service E.Broadcast C.Coin in
-            (w : Setting) (es : List Event) (numbers : List ℕ) (p : Peers) (at : ℕ) → AreHere m w es numbers self.now.replicas.items
-            → slice_get numbers place ≡ Some at → peer < w.numbers.n → IsMore w at result (asks_for_more at peer p) }
+            (w : Setting) (es : List Event) (numbers : List ℕ) (ws : Waiting) (p : Peers) (at : ℕ) → HouseStands m w es numbers self.now ws p
+            → slice_get numbers place ≡ Some at → peer < w.numbers.n → IsMore w at result (asks_for_more w.mode.version at peer p) }
     {
         let Some(replica) = self.replicas.get(place) else {
+            return More::Nothing;
+        };
+        let Some(keeper) = self.keepers.get(place) else {
             return More::Nothing;
         };
         let channel = replica.channel();
@@ -221,7 +224,7 @@ impl<S: Service, E: Broadcast, C: Coin + Drop> House<S, E, C> {
         }
         More::Note {
             peer,
-            bytes: channel.seal_again(peer),
+            bytes: channel.seal_again(peer, keeper.wanted_from(peer)),
         }
     }
 
@@ -230,15 +233,15 @@ impl<S: Service, E: Broadcast, C: Coin + Drop> House<S, E, C> {
         ensures comes { let m = meaning_of S.Service E.Broadcast C.Coin in
             (w : Setting) (es : List Event) (numbers : List ℕ) (ws : Waiting) (p : Peers) → HouseStands m w es numbers self.old ws p
             → w.is_correct pair.at ≡ true → pair.peer < w.numbers.n
-            → ComesOut m w es numbers self.new output.new (silent [] ws) (asks_for_more pair.at pair.peer p) }
+            → ComesOut m w es numbers self.new output.new (silent [] ws) (asks_for_more w.mode.version pair.at pair.peer p) }
         ensures none { output.new.event ≡ None }
     {
         output.clear(pair.at);
         let Some(place) = self.place_of(pair.at) else {
             return;
         };
-        self.unmark(place, pair.peer);
         output.more = self.again_to(place, pair.peer);
+        self.unmark(place, pair.peer);
     }
 
     /// Whether each log has so many rows, if that isn't 0.

@@ -13,11 +13,13 @@
 //! - In versions 1 and 2 at most 8,388,608 bytes are kept for one peer. A frame that doesn't fit goes out and
 //!   isn't kept; of the frames that a journal's events make, the newest are kept. All that is kept for a peer
 //!   goes out again at once.
-//! - In version 3 all is kept, and goes out again in batches: the oldest frames, as many as have 262,144
+//! - In version 3 all is kept, and goes out again in batches: the oldest frames, as many as have 16,384
 //!   bytes together, and at least one. A new connection begins with a batch. With the acknowledgement of its
 //!   last frame the next batch follows, up to the frame that was the newest as the connection came: a peer
-//!   that was away for long is sent its frames as fast as it takes them. A peer that asks is sent the first
-//!   batch of what is kept, and by that no other follows.
+//!   that was away for long is sent its frames as fast as it takes them. A peer that asks says from which
+//!   number on: it is sent one frame from there on, and with its acknowledgement the batches behind it
+//!   follow, up to the newest frame. Where batches are under way that will come to that number, nothing goes
+//!   out beside them, and they go on up to the newest frame.
 #![tactic(auto)]
 
 mod again;

@@ -45,7 +45,11 @@ pub(crate) enum Part {
     /// All of them.
     All,
     /// The batch at the front of those behind a number, if there is one, up to the last one.
-    Batch { after: Option<u64>, last: u64 },
+    Batch {
+        after: Option<u64>,
+        last: u64,
+        most: u64,
+    },
 }
 
 /// What goes to a peer besides the frames of a call.

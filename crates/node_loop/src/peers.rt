@@ -9,9 +9,9 @@ ghost use Rattle.world_model.specs.EveryWorld.{IsWorld};
 ghost use Rattle.world_model.specs.Stands.{IsReplica};
 ghost use Rattle.node_loop.specs.Meanings.{meaning_of};
 ghost use Rattle.node_loop.specs.declared.peers.Pair.{Pair as APair};
-ghost use Rattle.node_loop.specs.Peers.{Peers, with_list, keeps, is_due_of};
+ghost use Rattle.node_loop.specs.Peers.{Peers, with_list, keeps, is_due_of, early_with, asked_from};
 ghost use Rattle.node_loop.specs.PeersStanding.{AreKept, IsKeeper};
-ghost use Rattle.node_loop.specs.Resending.{replica_progress, mark_at, peers_due, nothing_more, reached, newest_in, resends, front_of, sends_batch, goes_on, acked_so, connected};
+ghost use Rattle.node_loop.specs.Resending.{replica_progress, mark_at, peers_due, nothing_more, reached, newest_in, before, sends_batch, begins_at, begins_unless, goes_on, acked_so, asked_so, connected};
 ghost use Rattle.node_loop.specs.Standing.{IsMore};
 
 use crate::output::{More, Part};
@@ -22,6 +22,9 @@ use replica::Replica;
 use ritas_base::{Coin, FrameVersion, Mem};
 use std::alloc::Global;
 
+// A batch that wasn't asked for has at most so many bytes, or one frame.
+const MOST_BATCH_BYTES: u64 = 16_384;
+
 /// How far a replica had come, and how many bytes it held for a peer.
 #[derive(Clone, Copy)]
 pub(crate) struct Mark {
@@ -29,6 +32,15 @@ pub(crate) struct Mark {
     pub progress: u64,
     /// The bytes.
     pub held: u32,
+}
+
+/// What is known of the frames of a peer that came too early.
+#[derive(Clone, Copy)]
+pub(crate) struct Early {
+    /// Where the replica stood when the newest of them came.
+    pub mark: Mark,
+    /// The least of their numbers.
+    pub least: u64,
 }
 
 /// A replica and a peer of it.
@@ -54,7 +66,7 @@ pub(crate) struct Pending {
 pub(crate) struct Keeper {
     pub version: FrameVersion,
     pub resume: Resume,
-    pub marks: Vec<Option<Mark>>,
+    pub marks: Vec<Option<Early>>,
     pub pending: Vec<Option<Pending>>,
 }
 
@@ -72,13 +84,35 @@ fn progress_of<S: Service, E: Broadcast, C: Coin + Drop>(replica: &Replica<S, E,
     progress
 }
 
-// Whether a peer with this mark is to be asked to send again, where the replica stands so now.
-fn is_due(was: Option<Mark>, now: Mark) -> bool
-    ensures due { result ≡ is_due_of was now }
+// Whether a peer of which such frames came too early is to be asked to send again, where the replica stands so now.
+fn is_due(early: Option<Early>, now: Mark) -> bool
+    ensures due { result ≡ is_due_of early now }
 {
-    match was {
-        Some(was) => now.held < was.held || was.progress < now.progress,
+    match early {
+        Some(early) => now.held < early.mark.held || early.mark.progress < now.progress,
         None => false,
+    }
+}
+
+// With one more frame that came too early, when the replica stood so.
+fn early_with(early: Option<Early>, mark: Mark, seq: u64) -> Early
+    ensures early { result ≡ early_with early mark seq }
+{
+    let least = match early {
+        Some(early) if early.least <= seq => early.least,
+        _ => seq,
+    };
+    Early { mark, least }
+}
+
+// From which number on a peer is asked to send again.
+fn asked_from(version: FrameVersion, early: Option<Early>) -> u64
+    ensures from { result ≡ asked_from version early }
+{
+    match (version, early) {
+        (FrameVersion::Three, Some(early)) => early.least,
+        (FrameVersion::Three, None) => 0,
+        (FrameVersion::One | FrameVersion::Two, _) => 0,
     }
 }
 
@@ -95,6 +129,13 @@ pub(crate) fn mark_of<S: Service, E: Broadcast, C: Coin + Drop>(
         progress: progress_of(replica),
         held: replica.core().held_of(peer),
     }
+}
+
+// The number before this one, if there is one.
+fn before(seq: u64) -> Option<u64>
+    ensures before { result ≡ before seq }
+{
+    seq.checked_sub(1)
 }
 
 /// The version of a replica's session.
@@ -162,28 +203,32 @@ impl Keeper {
     }
 
     // The number up to which a batch goes out, if it has a frame.
-    fn reached(&self, peer: u8, after: Option<u64>, end: u64) -> Option<Pending>
+    fn reached(&self, peer: u8, after: Option<u64>, end: u64, most: u64) -> Option<Pending>
         requires { peer < length self.now.resume.lists }
-        ensures { result ≡ reached end (batch (between after end (kept_for self.now.resume.lists peer))) }
+        ensures { result ≡ reached end (batch most (between after end (kept_for self.now.resume.lists peer))) }
     {
-        match self.resume.last_of_batch(peer, after, end) {
+        match self.resume.last_of_batch(peer, after, end, most) {
             Some(last) => Some(Pending { last, end }),
             None => None,
         }
     }
 
     // A batch of what is kept for a peer is to go out again.
-    fn send_batch(&mut self, peer: u8, after: Option<u64>, end: u64) -> More
+    fn send_batch(&mut self, peer: u8, after: Option<u64>, end: u64, most: u64) -> More
         requires { peer < length self.old.resume.lists }
         ensures batch { (w : Setting) (i : ℕ) (p : Peers) → IsKeeper w.mode.version w.numbers.n i self.old p
-            → let brings = sends_batch i peer after end p in
+            → let brings = sends_batch i peer after end most p in
             IsKeeper w.mode.version w.numbers.n i self.new brings.peers × IsMore w i result brings }
     {
-        let pending = self.reached(peer, after, end);
+        let pending = self.reached(peer, after, end, most);
         self.note_pending(peer, pending);
         More::Kept {
             peer,
-            part: Part::Batch { after, last: end },
+            part: Part::Batch {
+                after,
+                last: end,
+                most,
+            },
         }
     }
 
@@ -197,7 +242,7 @@ impl Keeper {
         match self.pending_of(peer) {
             Some(pending) => {
                 if pending.last == seq {
-                    self.send_batch(peer, Some(seq), pending.end)
+                    self.send_batch(peer, Some(seq), pending.end, MOST_BATCH_BYTES)
                 } else {
                     More::Nothing
                 }
@@ -222,10 +267,44 @@ impl Keeper {
         }
     }
 
-    /// What goes out again to a peer that asks for it.
-    pub(crate) fn again(&self, peer: u8) -> More
-        ensures again { (w : Setting) (i : ℕ) (p : Peers) → IsKeeper w.mode.version w.numbers.n i self.now p → peer < w.numbers.n
-            → IsMore w i result (resends i peer (front_of w.mode.version (p.keeping i peer)) p) }
+    // What is kept for a peer goes out again from a number on: first a single frame.
+    fn begin_at(&mut self, peer: u8, seq: u64) -> More
+        requires { peer < length self.old.resume.lists }
+        ensures begins { (w : Setting) (i : ℕ) (p : Peers) → IsKeeper w.mode.version w.numbers.n i self.old p
+            → let brings = begins_at i peer seq p in
+            IsKeeper w.mode.version w.numbers.n i self.new brings.peers × IsMore w i result brings }
+    {
+        let end = self.newest(peer);
+        self.send_batch(peer, before(seq), end, 0)
+    }
+
+    // Where batches go out to a peer that will come to this number, they are to go on up to the newest frame; else what is kept goes
+    // out again from there on.
+    fn begin_unless(&mut self, peer: u8, seq: u64) -> More
+        requires { peer < length self.old.resume.lists }
+        ensures begins { (w : Setting) (i : ℕ) (p : Peers) → IsKeeper w.mode.version w.numbers.n i self.old p
+            → let brings = begins_unless i peer seq (p.pending i peer) p in
+            IsKeeper w.mode.version w.numbers.n i self.new brings.peers × IsMore w i result brings }
+    {
+        match self.pending_of(peer) {
+            Some(pending) => {
+                if pending.last < seq {
+                    let (last, end) = (pending.last, self.newest(peer));
+                    self.note_pending(peer, Some(Pending { last, end }));
+                    More::Nothing
+                } else {
+                    self.begin_at(peer, seq)
+                }
+            }
+            None => self.begin_at(peer, seq),
+        }
+    }
+
+    /// What goes out again to a peer that asks for it, from a number on.
+    pub(crate) fn asked(&mut self, peer: u8, seq: u64) -> More
+        ensures asked { (w : Setting) (i : ℕ) (p : Peers) → IsKeeper w.mode.version w.numbers.n i self.old p → peer < w.numbers.n
+            → let brings = asked_so w.mode.version i peer seq p in
+            IsKeeper w.mode.version w.numbers.n i self.new brings.peers × IsMore w i result brings }
     {
         if usize::from(peer) >= self.resume.peers() {
             return More::Nothing;
@@ -235,13 +314,7 @@ impl Keeper {
                 peer,
                 part: Part::All,
             },
-            FrameVersion::Three => {
-                let last = self.newest(peer);
-                More::Kept {
-                    peer,
-                    part: Part::Batch { after: None, last },
-                }
-            }
+            FrameVersion::Three => self.begin_unless(peer, seq),
         }
     }
 
@@ -269,19 +342,27 @@ impl Keeper {
             },
             FrameVersion::Three => {
                 let end = self.newest(peer);
-                self.send_batch(peer, None, end)
+                self.send_batch(peer, None, end, MOST_BATCH_BYTES)
             }
         }
     }
 
-    /// The peer gets this mark, in place of the one that it may have.
-    pub(crate) fn mark(&mut self, peer: u8, mark: Mark)
+    /// A frame of the peer, of this number, came too early, when the replica stood so.
+    pub(crate) fn mark(&mut self, peer: u8, mark: Mark, seq: u64)
         ensures rest { self.new ≡ record self.old { marks = self.new.marks } }
-        ensures marks { self.new.marks.items ≡ slice_set self.old.marks.items peer (Some mark) }
+        ensures marks { self.new.marks.items ≡ slice_set self.old.marks.items peer
+            (Some (early_with (slice_index_or self.old.marks.items peer None) mark seq)) }
     {
         if let Some(old) = self.marks.get_mut(usize::from(peer)) {
-            *old = Some(mark);
+            *old = Some(early_with(*old, mark, seq));
         }
+    }
+
+    /// From which number on a peer is asked to send again.
+    pub(crate) fn wanted_from(&self, peer: u8) -> u64
+        ensures from { result ≡ asked_from self.now.version (slice_index_or self.now.marks.items peer None) }
+    {
+        asked_from(self.version, self.mark_for(peer))
     }
 
     /// The peer has no mark any more.
@@ -307,7 +388,7 @@ impl Keeper {
     }
 
     // The mark of a peer, if it has one.
-    fn mark_for(&self, peer: u8) -> Option<Mark>
+    fn mark_for(&self, peer: u8) -> Option<Early>
         ensures mark { result ≡ slice_index_or self.now.marks.items peer None }
     {
         match self.marks.get(usize::from(peer)) {

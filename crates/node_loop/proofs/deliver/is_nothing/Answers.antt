@@ -29,6 +29,6 @@ pub returns-in-Batch : goal.returns-in-Batch
 returns-in-Batch c = record {
   nothing =
       by_next c.next_frame.result c.is_none.result _ _ c.next_frame.ensures c.is_none.ensures
-      ∙ (ap (λ (l : List Kept). length l == 0) c.batch.ensures
+      ∙ (ap (λ (l : List Kept). length l == 0) c.batch-batch.ensures
       ∙ sym (ap (λ (part : Part). length (part_of part (kept_for c.args.resume.now.lists c.args.peer)) == 0) c.in-Batch.is));
 }

@@ -1,8 +1,8 @@
-use Rattle.std.proofs.Common.{Some, refl}
-use Rattle.node_loop.specs.Peers.{with_mark}
+use Rattle.std.proofs.Common.{refl}
+use Rattle.node_loop.specs.Peers.{marked_early}
 use Rattle.node_loop.specs.Resending.{mark_at}
 use Rattle.node_loop.proofs.Heres.{as_here, nowhere, read_at}
-use Rattle.node_loop.proofs.Hearing.{keeper_at, mark_there, mark_elsewhere, one_keeper, marked_so}
+use Rattle.node_loop.proofs.Hearing.{keeper_at, early_there, early_elsewhere, one_keeper, marked_so}
 use Rattle.node_loop.proofs.house.House.mark.Goals as goal
 
 pub returns-in-Some-get_mut : goal.returns-in-Some-get_mut
@@ -11,11 +11,13 @@ returns-in-Some-get_mut g c = record {
       let is = read_at _ w es numbers c.args.self.now.replicas.items c.deref.result.now c.args.place at c.in-Some.replica.now stand.here c.deref.ensures.value number c.in-Some.ensures.lookup.3.0 c.in-Some.ensures.lookup.1 in
       let mark = c.mark_of-mark.ensures.mark w es at stand.here.kind is in
       let keeper = keeper_at _ w es numbers c.args.self.now ws p c.args.place at c.in-Some-get_mut.keeper.now stand number c.in-Some-get_mut.ensures.item.3.0 c.in-Some-get_mut.ensures.value in
-      marked_so _ w es numbers _ ws at c.args.peer c.mark_of-mark.result (mark_at w es at c.args.peer) p mark
-      (one_keeper _ w es numbers c.args.self.now _ ws p (with_mark at c.args.peer (Some c.mark_of-mark.result) p) c.args.place at c.in-Some-get_mut.keeper.now c.mark.new.self
+      let from = c.args.frame.from in
+      let seq = c.args.frame.seq in
+      marked_so _ w es numbers _ ws at from seq c.mark_of-mark.result (mark_at w es at from) p mark
+      (one_keeper _ w es numbers c.args.self.now _ ws p (marked_early at from seq c.mark_of-mark.result p) c.args.place at c.in-Some-get_mut.keeper.now c.mark.new.self
       stand number c.in-Some-get_mut.ensures.item.3.0 c.in-Some-get_mut.ensures.value refl refl refl
-      (mark_there w.mode.version w.numbers.n at c.args.peer (Some c.mark_of-mark.result) c.in-Some-get_mut.keeper.now c.mark.new.self p keeper c.mark.ensures.rest c.mark.ensures.marks)
-      (λ i k other it. mark_elsewhere w.mode.version w.numbers.n i at c.args.peer (Some c.mark_of-mark.result) k p other it));
+      (early_there w.mode.version w.numbers.n at from seq c.mark_of-mark.result c.in-Some-get_mut.keeper.now c.mark.new.self p keeper c.mark.ensures.rest c.mark.ensures.marks)
+      (λ i k other it. early_elsewhere w.mode.version w.numbers.n i at from seq c.mark_of-mark.result k p other it));
 }
 
 pub returns-in_default : goal.returns-in_default

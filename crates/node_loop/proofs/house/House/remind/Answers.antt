@@ -20,12 +20,12 @@ returns-clause-comes g c = λ w es numbers ws p stands right below.
     let none = c.clear.ensures.none in
     let placed = (c.in-Some.ensures.place w es numbers stands.here).1 in
     let now = c.unmark.ensures.unmarks w es numbers ws p at stands placed in
-    let asks = c.again_to-output.ensures.note w es numbers p at now.here placed below in
+    let asks = c.again_to-output.ensures.note w es numbers ws p at stands placed below in
     record {
       event = none.0;
       keeps = none.4;
       frames = ap (λ (fs : List OutFrame). map (frame_by o.at) fs) none.1;
-      besides = subst (λ x. IsMore w x c.again_to-output.result (asks_for_more at peer p)) (sym same) asks;
+      besides = subst (λ x. IsMore w x c.again_to-output.result (asks_for_more w.mode.version at peer p)) (sym same) asks;
       nowhere = λ wrong. absurd (both_ways (w.is_correct at) (ap w.is_correct (sym same) ∙ wrong) right);
       replies = ap (λ (rs : List Reply). map (reply_by o.at) rs) none.3;
       before = with_mark at peer None p;

@@ -6,6 +6,6 @@ pub returns : goal.returns
 returns c = record {
   batch = λ w i p is.
       let below : c.args.peer < w.numbers.n = omega (arith, c.requires, is.kept.many) in
-      both_of w i _ _ _ (answers_batch w i c.args.peer c.args.after c.args.end c.reached-pending.result c.args.self.now c.note_pending.new.self p is below
+      both_of w i _ _ _ (answers_batch w i c.args.peer c.args.after c.args.end c.args.most c.reached-pending.result c.args.self.now c.note_pending.new.self p is below
       c.reached-pending.ensures c.note_pending.ensures.rest c.note_pending.ensures.pending);
 }
