@@ -1,6 +1,6 @@
 //! The frames that are kept for all peers, each with a limit of its own, until they are acknowledged.
 
-ghost use Rattle.std.specs.Prelude.{◌≡◌, ℕ, ◌+◌, ◌<◌, ◌≤◌, ◌↔◌, [], length, replicate, Err, IfOk, OnOk, OnErr, MatchOption, Some};
+ghost use Rattle.std.specs.Prelude.{◌≡◌, ℕ, ◌+◌, ◌<◌, ◌≤◌, ◌↔◌, [], length, replicate, sum_by, Err, IfOk, OnOk, OnErr, MatchOption, Some};
 ghost use Rattle.std.specs.List.{slice_get};
 ghost use Rattle.link_resume.specs.Lists.{kept_for, bytes_in, IsWithin, IsOver, with_frame_kept, with_room, without_number, between, batch, last_number};
 
@@ -114,6 +114,17 @@ impl Resume {
         ensures most { IsWithin self.now.limit result }
     {
         self.lanes[peer as usize].bytes()
+    }
+
+    /// How many bytes the frames have that are kept for all peers. It takes no memory.
+    pub fn all_bytes(&self) -> u128
+        ensures { result ≡ sum_by bytes_in self.now.lists }
+    {
+        let mut bytes: u128 = 0;
+        for lane in &self.lanes {
+            bytes += u128::from(lane.bytes());
+        }
+        bytes
     }
 
     /// The number of the newest frame that is kept for a peer, if there is one. It takes no memory.

@@ -138,6 +138,7 @@ module _ (tells : Tells) (base : Outs) (taken : List ℕ) (count : ℕ) (past : 
     ends_with now ends.Done before earlier s sooner news rule with_it so = whole_with now s _ rule _ so
     ends_with now ends.Limit before earlier s sooner news rule with_it so = whole_with now s _ rule _ so
     ends_with now ends.End before earlier s sooner news rule with_it so = whole_with now s _ rule _ so
+    ends_with now (ends.KeptFull x) before earlier s sooner news rule with_it so = whole_with now s _ rule _ so
     ends_with now ends.LinkFault before earlier s sooner news rule with_it so = (stops_with now faults.Link before earlier s.events sooner news with_it so.0, stand_with s so.1)
     ends_with now ends.TapeFault before earlier s sooner news rule with_it so = (stops_with now faults.Tape before earlier s.events sooner news with_it so.0, stand_with s so.1)
     ends_with now ends.Mem before earlier s sooner news rule with_it so = stops_with now faults.Mem before earlier s.events sooner news with_it so
@@ -159,6 +160,7 @@ module _ (tells : Tells) (base : Outs) (taken : List ℕ) (count : ℕ) (past : 
     kept_with now groups ends.Done held = held
     kept_with now groups ends.Limit held = held
     kept_with now groups ends.End held = held
+    kept_with now groups (ends.KeptFull x) held = held
     kept_with now groups ends.TapeFault held = held
     kept_with now groups ends.DiskFault held = held
     kept_with now groups (ends.JournalFull x) held = held

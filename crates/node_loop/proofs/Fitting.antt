@@ -13,7 +13,7 @@ use Rattle.world_model.specs.World.{Setting, seen_of}
 use Rattle.world_model.specs.Agree.{rows_at}
 use Rattle.node_loop.specs.Waiting.{Waiting, with_waiter}
 use Rattle.node_loop.specs.Calls.{Outcome, event_called, asked_in, refusal_in, submitted, submitted_so, silent, is_waited_for, asked_so, asks_so, asks_but, asks, if_here, item_does, first_does}
-use Rattle.node_loop.specs.Serving.{so_far, onto, Want, Begins, Finishes, Turns, Halts, Reminds, Asks, here, has_enough_rows, busy, turn_or, remind_or, wants_of, first_or, Serving, Round, Began, Turned, Reminded, Took, behind_first, after_from, IsWanted, AreWantedFrom}
+use Rattle.node_loop.specs.Serving.{so_far, onto, Want, Begins, Finishes, Overflows, Turns, Halts, Reminds, Asks, here, has_enough_rows, busy, kept_bytes, overfull, overflow_or, turn_or, remind_or, wants_of, first_or, Serving, Round, Began, Turned, Reminded, Took, behind_first, after_from, IsWanted, AreWantedFrom}
 use Rattle.node_loop.specs.Told.{after_groups}
 use Rattle.node_loop.specs.Served.{MayBegin}
 use Rattle.node_loop.specs.Laws.{IsServed, EventsFit}
@@ -42,6 +42,7 @@ begun_fits : (left : List LinkItem) (other : Want) (item : LinkItem) → AllByRe
     → IsWanted (first_or left other) (Began item) → MayBegin item
 begun_fits [] (Begins x) item all none want = absurd (none x refl)
 begun_fits [] Finishes item all none want = absurd want
+begun_fits [] (Overflows k) item all none want = absurd want
 begun_fits [] (Turns i) item all none want = absurd want
 begun_fits [] Halts item all none want = absurd want
 begun_fits [] (Reminds i j) item all none want = absurd want
@@ -134,9 +135,16 @@ no_first w until limit es taken p x = go (has_enough_rows w until es)
     turns [] e = either (nat_le limit taken) e
     turns (i ∷ is) e = absurd (cc)
 
-    go : (b : Bool) → (if b then Finishes else turn_or (busy w es) (if nat_le limit taken then Halts else remind_or (due w es (here w) p))) ≡ Begins x → ⊥
+    other : Want
+    other = turn_or (busy w es) (if nat_le limit taken then Halts else remind_or (due w es (here w) p))
+
+    overflows : (is : List ℕ) → overflow_or (kept_bytes w p) is other ≡ Begins x → ⊥
+    overflows [] e = turns (busy w es) e
+    overflows (i ∷ is) e = absurd (cc)
+
+    go : (b : Bool) → (if b then Finishes else overflow_or (kept_bytes w p) (overfull w p) other) ≡ Begins x → ⊥
     go true e = absurd (cc)
-    go false e = turns (busy w es) e
+    go false e = overflows (overfull w p) e
 
 -- a turn that is wanted is one at a correct replica
 turned_fits : (w : Setting) (until limit : ℕ) (es : List Event) (taken i : ℕ) (p : Peers) (left : List LinkItem)
@@ -147,6 +155,7 @@ turned_fits w until limit es taken i p [] want = by_rule (wants_of w until limit
     by_rule (Turns j) is same = subst (λ (k : ℕ). w.is_correct k ≡ true) same (turns_correct w until limit es taken p j is)
     by_rule (Begins x) is none = absurd none
     by_rule Finishes is none = absurd none
+    by_rule (Overflows k) is none = absurd none
     by_rule Halts is none = absurd none
     by_rule (Reminds k l) is none = absurd none
     by_rule Asks is none = absurd none
@@ -162,6 +171,7 @@ took_fits w until limit es taken item p [] want = by_rule (wants_of w until limi
     by_rule (Turns j) none = absurd none
     by_rule (Begins x) none = absurd none
     by_rule Finishes none = absurd none
+    by_rule (Overflows k) none = absurd none
     by_rule Halts none = absurd none
     by_rule (Reminds k l) none = absurd none
 took_fits w until limit es taken item p (x ∷ left) none = absurd none

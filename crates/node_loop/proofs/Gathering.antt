@@ -34,7 +34,7 @@ use Rattle.node_loop.specs.Serving.{Serving, begin, so_far, Want, first_or, want
 use Rattle.node_loop.specs.Standing.{HouseStands}
 use Rattle.node_loop.specs.Told.{given_in, events_from, most_rounds, enough_bytes, MayJoin, IsGroup, IsFull, IsGroupOver, after_groups, AreGroups, before_newest, told_from, newest_calls, sooner}
 use Rattle.node_loop.proofs.Grouping.{events_parts, text_parts, holds_none, joins_on}
-use Rattle.node_loop.proofs.Rounding.{next_told, GaveNone, memory_short, tape_on, told_parts, next_finish, next_halt, next_ask, if_failed, ends_so, left_end, left_none, wants_now}
+use Rattle.node_loop.proofs.Rounding.{next_told, GaveNone, memory_short, tape_on, told_parts, next_finish, next_overflow, next_halt, next_ask, if_failed, ends_so, left_end, left_none, wants_now}
 use Rattle.node_loop.proofs.Stepping.{with_link, of_link, whole_order}
 
 -- ---- what the link gave for a group
@@ -360,6 +360,11 @@ module _ {S E C : Type 0} (m : Meaning S E C KeyRow) (w : Setting) (past : List 
         serves_whole run.groups house.replicas.items o ends.Done run.are run.queries
         (record { why = last_now ∙ next_finish last_want is; agrees = in_parts o.outs [] run.agrees; stand = run.stands.here }) (λ far group older. run.kept)
 
+    pub overflows : (bytes : ℕ) → IsNext last_want (next.Overflow bytes) → EndedAt house.replicas.items o (ends.KeptFull bytes)
+    overflows bytes is =
+        serves_whole run.groups house.replicas.items o (ends.KeptFull bytes) run.are run.queries
+        (record { why = last_now ∙ next_overflow last_want bytes is; agrees = in_parts o.outs [] run.agrees; stand = run.stands.here }) (λ far group older. run.kept)
+
     pub halts : IsNext last_want next.Halt → EndedAt house.replicas.items o ends.Limit
     halts is =
         serves_whole run.groups house.replicas.items o ends.Limit run.are run.queries
@@ -426,6 +431,7 @@ serves_plain m w past numbers here tells base now end until limit first never se
     by_end ends.Done so kept = so
     by_end ends.Limit so kept = so
     by_end ends.End so kept = so
+    by_end (ends.KeptFull x) so kept = so
     by_end ends.LinkFault so kept = so
     by_end ends.TapeFault so kept = so
     by_end ends.Mem so kept = so

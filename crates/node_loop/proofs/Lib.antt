@@ -28,6 +28,7 @@ pub mod Keeping
 pub mod KeptEvents
 pub mod Keepers
 pub mod Wishing
+pub mod Overfull
 pub mod Hearing
 pub mod KeptFrames
 pub mod Taking

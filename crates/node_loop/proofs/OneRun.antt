@@ -8,7 +8,7 @@ use Rattle.outside.specs.declared.link.LinkItem.{LinkItem}
 use Rattle.layer_api.specs.Service.{IsPart}
 use Rattle.world_model.specs.World.{Setting}
 use Rattle.world_model.specs.Agree.{OneIsPart}
-use Rattle.node_loop.specs.Serving.{Want, Begins, Finishes, Turns, Halts, Reminds, Asks, wants, Serving, Round, Began, Turned, Reminded, Took, after_from, IsWanted, AreWantedFrom}
+use Rattle.node_loop.specs.Serving.{Want, Begins, Finishes, Overflows, Turns, Halts, Reminds, Asks, wants, Serving, Round, Began, Turned, Reminded, Took, after_from, IsWanted, AreWantedFrom}
 use Rattle.node_loop.specs.Laws.{items_of, OneRun}
 
 -- ---- parts
@@ -93,6 +93,7 @@ same_round Asks (Began c) y xs left right one = absurd left
 same_round Asks (Turned c) y xs left right one = absurd left
 same_round Asks (Reminded c d) y xs left right one = absurd left
 same_round Finishes x y xs left right one = absurd left
+same_round (Overflows k) x y xs left right one = absurd left
 same_round Halts x y xs left right one = absurd left
 
 -- ---- all rounds

@@ -269,6 +269,7 @@ module _ {S E C : Type 0} (m : Meaning S E C KeyRow) (w : Setting) (going : None
       → KeptAt now (reach tells base now.outs before written old_calls) kept newest earlier end → Prints
   end_prints ends.Done before written s rule so held = whole_left held so.agrees.told
   end_prints ends.Limit before written s rule so held = whole_left held so.agrees.told
+  end_prints (ends.KeptFull x) before written s rule so held = whole_left held so.agrees.told
   end_prints ends.End before written s rule so held =
       all_left held (back_all base.told now.outs.told (Gives items.End ∷ (news ++ old_calls)) (so.agrees.told linked))
   end_prints ends.LinkFault before written s rule so held = elim held [

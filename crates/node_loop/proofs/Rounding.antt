@@ -16,7 +16,7 @@ use Rattle.node_loop.specs.declared.peers.Pair.{Pair}
 use Rattle.node_loop.specs.declared.rounds.Next.TheVariants as next
 use Rattle.node_loop.specs.Peers.{Peers}
 use Rattle.node_loop.specs.Resending.{due}
-use Rattle.node_loop.specs.Serving.{Serving, so_far, Want, Begins, Finishes, Turns, Halts, Reminds, Asks, wants_of, turn_or, remind_or, first_or, here, busy, has_enough_rows, wants, Round, Turned, Reminded, Took, IsGiven, IsWanted}
+use Rattle.node_loop.specs.Serving.{Serving, so_far, Want, Begins, Finishes, Overflows, Turns, Halts, Reminds, Asks, wants_of, kept_bytes, overfull, overflow_or, turn_or, remind_or, first_or, here, busy, has_enough_rows, wants, Round, Turned, Reminded, Took, IsGiven, IsWanted}
 use Rattle.node_loop.specs.Told.{told_from, newest_calls, sooner}
 use Rattle.node_loop.specs.Outs.{Outs, Tells, Agrees, HasCauses, AllWritten, NoneSent, StopsPartway, IfFailed}
 use Rattle.node_loop.specs.Ends.{IsEndOfLink, IsFaultOfLink, IsEndOf}
@@ -98,14 +98,25 @@ told_parts w past start (group ∷ older) = refl
 pub next_finish : (want : Want) → IsNext want next.Finish → want ≡ Finishes
 next_finish Finishes is = refl
 next_finish (Begins item) is = absurd is
+next_finish (Overflows x) is = absurd is
 next_finish (Turns i) is = absurd is
 next_finish Halts is = absurd is
 next_finish (Reminds i j) is = absurd is
 next_finish Asks is = absurd is
 
+pub next_overflow : (want : Want) (bytes : ℕ) → IsNext want (next.Overflow bytes) → want ≡ Overflows bytes
+next_overflow (Overflows x) bytes is = ap (λ (k : ℕ). Overflows k) is
+next_overflow (Begins item) bytes is = absurd is
+next_overflow Finishes bytes is = absurd is
+next_overflow (Turns i) bytes is = absurd is
+next_overflow Halts bytes is = absurd is
+next_overflow (Reminds i j) bytes is = absurd is
+next_overflow Asks bytes is = absurd is
+
 pub next_turn : (want : Want) (at : ℕ) → IsNext want (next.Turn at) → want ≡ Turns at
 next_turn (Turns i) at is = ap (λ (k : ℕ). Turns k) is
 next_turn (Begins item) at is = absurd is
+next_turn (Overflows x) at is = absurd is
 next_turn Finishes at is = absurd is
 next_turn Halts at is = absurd is
 next_turn (Reminds i j) at is = absurd is
@@ -114,6 +125,7 @@ next_turn Asks at is = absurd is
 pub next_halt : (want : Want) → IsNext want next.Halt → want ≡ Halts
 next_halt Halts is = refl
 next_halt (Begins item) is = absurd is
+next_halt (Overflows x) is = absurd is
 next_halt Finishes is = absurd is
 next_halt (Turns i) is = absurd is
 next_halt (Reminds i j) is = absurd is
@@ -122,6 +134,7 @@ next_halt Asks is = absurd is
 pub next_ask : (want : Want) → IsNext want next.Ask → want ≡ Asks
 next_ask Asks is = refl
 next_ask (Begins item) is = absurd is
+next_ask (Overflows x) is = absurd is
 next_ask Finishes is = absurd is
 next_ask (Turns i) is = absurd is
 next_ask Halts is = absurd is
@@ -130,6 +143,7 @@ next_ask (Reminds i j) is = absurd is
 pub next_remind : (want : Want) (pair : Pair) → IsNext want (next.Remind pair) → want ≡ Reminds pair.at pair.peer
 next_remind (Reminds i j) pair is = ap₂ (λ (a b : ℕ). Reminds a b) is.0 is.1
 next_remind (Begins item) pair is = absurd is
+next_remind (Overflows x) pair is = absurd is
 next_remind Finishes pair is = absurd is
 next_remind (Turns i) pair is = absurd is
 next_remind Halts pair is = absurd is
@@ -137,27 +151,43 @@ next_remind Asks pair is = absurd is
 
 -- what the rules want, by what is found
 module _ (w : Setting) (until limit : ℕ) (es : List Event) (taken : ℕ) (p : Peers) where
-  pub wants_turn : (at : ℕ) (more : List ℕ) → has_enough_rows w until es ≡ false → busy w es ≡ at ∷ more → IsNext (wants_of w until limit es taken p) (next.Turn at)
-  wants_turn at more going first =
-      let other : Want = if nat_le limit taken then Halts else remind_or (due w es (here w) p) in
-      subst (λ (b : Bool). IsNext (if b then Finishes else turn_or (busy w es) other) (next.Turn at)) (sym going)
-      (subst (λ (is : List ℕ). IsNext (turn_or is other) (next.Turn at)) (sym first) refl)
+  abbrev other_want : Want
+  other_want = if nat_le limit taken then Halts else remind_or (due w es (here w) p)
+
+  -- where no log has to have more rows, and too many bytes are kept at some replica, or at none
+  pub wants_overflow : (i bytes : ℕ) (more : List ℕ) → has_enough_rows w until es ≡ false → overfull w p ≡ i ∷ more → bytes ≡ kept_bytes w p i
+      → IsNext (wants_of w until limit es taken p) (next.Overflow bytes)
+  wants_overflow i bytes more going over so_many =
+      let rest : Want = turn_or (busy w es) other_want in
+      subst (λ (b : Bool). IsNext (if b then Finishes else overflow_or (kept_bytes w p) (overfull w p) rest) (next.Overflow bytes)) (sym going)
+      (subst (λ (is : List ℕ). IsNext (overflow_or (kept_bytes w p) is rest) (next.Overflow bytes)) (sym over) (sym so_many))
+
+  wants_behind : (is : List ℕ) → has_enough_rows w until es ≡ false → overfull w p ≡ [] → busy w es ≡ is → wants_of w until limit es taken p ≡ turn_or is other_want
+  wants_behind is going none first =
+      ap (λ (b : Bool). if b then Finishes else overflow_or (kept_bytes w p) (overfull w p) (turn_or (busy w es) other_want)) going
+      ∙ (ap (λ (xs : List ℕ). overflow_or (kept_bytes w p) xs (turn_or (busy w es) other_want)) none ∙ ap (λ (xs : List ℕ). turn_or xs other_want) first)
+
+  pub wants_turn : (at : ℕ) (more : List ℕ) → has_enough_rows w until es ≡ false → overfull w p ≡ [] → busy w es ≡ at ∷ more → IsNext (wants_of w until limit es taken p) (next.Turn at)
+  wants_turn at more going none first = subst (λ (want : Want). IsNext want (next.Turn at)) (sym (wants_behind (at ∷ more) going none first)) refl
 
   -- where no turn is
-  wants_other : (b : Bool) (ds : List Pair) → has_enough_rows w until es ≡ false → busy w es ≡ [] → nat_le limit taken ≡ b → due w es (here w) p ≡ ds
+  wants_other : (b : Bool) (ds : List Pair) → has_enough_rows w until es ≡ false → overfull w p ≡ [] → busy w es ≡ [] → nat_le limit taken ≡ b → due w es (here w) p ≡ ds
       → wants_of w until limit es taken p ≡ (if b then Halts else remind_or ds)
-  wants_other b ds going idle limited pairs =
-      ap (λ (c : Bool). if c then Finishes else turn_or (busy w es) (if nat_le limit taken then Halts else remind_or (due w es (here w) p))) going
-      ∙ (ap (λ (is : List ℕ). turn_or is (if nat_le limit taken then Halts else remind_or (due w es (here w) p))) idle
-      ∙ ap₂ (λ (c : Bool) (l : List Pair). if c then Halts else remind_or l) limited pairs)
+  wants_other b ds going none idle limited pairs =
+      wants_behind [] going none idle ∙ ap₂ (λ (c : Bool) (l : List Pair). if c then Halts else remind_or l) limited pairs
 
-  pub wants_remind : (pair : Pair) (more : List Pair) → has_enough_rows w until es ≡ false → busy w es ≡ [] → nat_le limit taken ≡ false → due w es (here w) p ≡ pair ∷ more
+  pub wants_halt : has_enough_rows w until es ≡ false → overfull w p ≡ [] → busy w es ≡ [] → nat_le limit taken ≡ true → IsNext (wants_of w until limit es taken p) next.Halt
+  wants_halt going none idle limited =
+      subst (λ (want : Want). IsNext want next.Halt) (sym (wants_other true (due w es (here w) p) going none idle limited refl)) tt
+
+  pub wants_remind : (pair : Pair) (more : List Pair) → has_enough_rows w until es ≡ false → overfull w p ≡ [] → busy w es ≡ [] → nat_le limit taken ≡ false → due w es (here w) p ≡ pair ∷ more
       → IsNext (wants_of w until limit es taken p) (next.Remind pair)
-  wants_remind pair more going idle limited pairs =
-      subst (λ (want : Want). IsNext want (next.Remind pair)) (sym (wants_other false (pair ∷ more) going idle limited pairs)) (refl, refl)
+  wants_remind pair more going none idle limited pairs =
+      subst (λ (want : Want). IsNext want (next.Remind pair)) (sym (wants_other false (pair ∷ more) going none idle limited pairs)) (refl, refl)
 
-  pub wants_ask : has_enough_rows w until es ≡ false → busy w es ≡ [] → nat_le limit taken ≡ false → due w es (here w) p ≡ [] → IsNext (wants_of w until limit es taken p) next.Ask
-  wants_ask going idle limited pairs = subst (λ (want : Want). IsNext want next.Ask) (sym (wants_other false [] going idle limited pairs)) tt
+  pub wants_ask : has_enough_rows w until es ≡ false → overfull w p ≡ [] → busy w es ≡ [] → nat_le limit taken ≡ false → due w es (here w) p ≡ []
+      → IsNext (wants_of w until limit es taken p) next.Ask
+  wants_ask going none idle limited pairs = subst (λ (want : Want). IsNext want next.Ask) (sym (wants_other false [] going none idle limited pairs)) tt
 
 -- ---- rounds
 

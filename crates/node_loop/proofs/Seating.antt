@@ -1,5 +1,5 @@
 -- Where the replica of a number stands, which is the least busy one, and whether all have so many rows.
-use Rattle.std.proofs.Common.{◌≡◌, ℕ, suc, ◌+◌, ◌<◌, ◌≤◌, Bool, true, false, not, ◌&&◌, ◌==◌, nat_le, List, [], ◌∷◌, length, Option, Some, None, refl, sym, ◌∙◌, ap, subst, arith, inl, inr, slice_index_or, if◌then◌else◌}
+use Rattle.std.proofs.Common.{◌≡◌, ℕ, suc, ◌+◌, ◌<◌, ◌≤◌, Bool, true, false, not, ◌&&◌, ◌==◌, nat_le, List, [], ◌∷◌, length, filter, Option, Some, None, refl, sym, ◌∙◌, ap, subst, arith, inl, inr, slice_index_or, if◌then◌else◌}
 use Rattle.std.specs.List.{slice_get, list_all, list_any}
 use Rattle.std.specs.Option.{MatchOption}
 use Rattle.std.proofs.lemmas.Bool.{ne_eqb, eqb-true, or_cases, false_from_ne_true}
@@ -125,29 +125,39 @@ least_next m w es numbers reps xs k rep least result stand same within is did so
     subst Q (sym (did w (states_of w es) x there ∙ ap (λ j. if is_busy_at w es x && is_before_other j least then Some j else least) (own_number m w es numbers reps x stand there.correct)))
     (least_more (is_busy_at w es) numbers k least so_far)
 
-pub least_is : {S E C : Type 0} (m : Meaning S E C KeyRow) (w : Setting) (es : List Event) (numbers : List ℕ) (reps xs : List (Replica S E C)) (k : ℕ) (least : Option ℕ)
-    → AreHere m w es numbers reps → xs ≡ reps → k ≤ length xs → length xs ≤ k → Least (is_busy_at w es) numbers k least
-    → MatchOption least (busy w es ≡ []) (λ i. (more : List ℕ) × (busy w es ≡ i ∷ more))
-least_is m w es numbers reps xs k None stand same below above none =
-    none_pass w.is_correct (is_busy_at w es) 0 w.numbers.n (λ j from under right.
+-- the least that passes a test is the first of all that do
+pub least_of : {S E C : Type 0} (m : Meaning S E C KeyRow) (w : Setting) (es : List Event) (numbers : List ℕ) (reps xs : List (Replica S E C)) (test : ℕ → Bool) (k : ℕ) (least : Option ℕ)
+    → AreHere m w es numbers reps → xs ≡ reps → k ≤ length xs → length xs ≤ k → Least test numbers k least
+    → MatchOption least (filter test (here w) ≡ []) (λ i. (more : List ℕ) × (w.is_correct i ≡ true) × (test i ≡ true) × (filter test (here w) ≡ i ∷ more))
+least_of m w es numbers reps xs test k None stand same below above none =
+    none_pass w.is_correct test 0 w.numbers.n (λ j from under right.
     let many = stand.many in
     let long = ap length same in
     let found = place_in m w es numbers reps j stand right in
     let within = found.within in
-    ap (is_busy_at w es) (sym found.is) ∙ none found.place (omega arith))
-least_is m w es numbers reps xs k (Some i) stand same below above is =
+    ap test (sym found.is) ∙ none found.place (omega arith))
+least_of m w es numbers reps xs test k (Some i) stand same below above is =
     let many = stand.many in
     let long = ap length same in
     let place_within = is.within in
     let here_it_is = at_place m w es numbers reps is.place stand (omega arith) in
     let right : w.is_correct i ≡ true = ap w.is_correct (sym is.is) ∙ here_it_is.is.correct in
-    first_passes w.is_correct (is_busy_at w es) 0 w.numbers.n i (omega arith) (let within = stand.kind.within i right in omega arith) right is.passes (λ j from before correct.
-    false_from_ne_true (is_busy_at w es j) (λ yes.
+    let first = first_passes w.is_correct test 0 w.numbers.n i (omega arith) (let within = stand.kind.within i right in omega arith) right is.passes (λ j from before correct.
+    false_from_ne_true (test j) (λ yes.
     let found = place_in m w es numbers reps j stand correct in
     let within = found.within in
-    let at_least = is.no_less found.place (omega arith) (ap (is_busy_at w es) found.is ∙ yes) in
+    let at_least = is.no_less found.place (omega arith) (ap test found.is ∙ yes) in
     let same_number = found.is in
-    absurd (omega arith)))
+    absurd (omega arith))) in
+    (first.0, right, is.passes, first.1)
+
+pub least_is : {S E C : Type 0} (m : Meaning S E C KeyRow) (w : Setting) (es : List Event) (numbers : List ℕ) (reps xs : List (Replica S E C)) (k : ℕ) (least : Option ℕ)
+    → AreHere m w es numbers reps → xs ≡ reps → k ≤ length xs → length xs ≤ k → Least (is_busy_at w es) numbers k least
+    → MatchOption least (busy w es ≡ []) (λ i. (more : List ℕ) × (busy w es ≡ i ∷ more))
+least_is m w es numbers reps xs k None stand same below above none = least_of m w es numbers reps xs (is_busy_at w es) k None stand same below above none
+least_is m w es numbers reps xs k (Some i) stand same below above is =
+    let first = least_of m w es numbers reps xs (is_busy_at w es) k (Some i) stand same below above is in
+    (first.0, first.3)
 
 -- ---- whether all have so many rows
 

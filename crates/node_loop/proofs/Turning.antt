@@ -7,7 +7,7 @@ use Rattle.world_model.specs.World.{Setting}
 use Rattle.node_loop.specs.declared.peers.Pair.{Pair}
 use Rattle.node_loop.specs.Peers.{Peers, is_due_of}
 use Rattle.node_loop.specs.Resending.{mark_at, peers_due, due}
-use Rattle.node_loop.specs.Serving.{Finishes, Turns, Halts, Reminds, here, busy, has_enough_rows, turn_or, remind_or, wants_of}
+use Rattle.node_loop.specs.Serving.{Want, Finishes, Overflows, Turns, Halts, Reminds, here, busy, has_enough_rows, kept_bytes, overfull, overflow_or, turn_or, remind_or, wants_of}
 
 abbrev AreCorrect : Setting → List ℕ → Type 0
 AreCorrect w is = AllByRecursion (λ i. w.is_correct i ≡ true) is
@@ -60,6 +60,11 @@ due_peers w es p (i ∷ is) right =
 
 -- ---- what is wanted
 
+-- what is wanted behind the bytes that are kept is wanted, where those aren't told
+behind_overflow : (A : Type 0) (bytes : ℕ → ℕ) (is : List ℕ) (other want : Want) → ((k : ℕ) → Overflows k ≡ want → ⊥) → (other ≡ want → A) → overflow_or bytes is other ≡ want → A
+behind_overflow A bytes [] other want none so e = so e
+behind_overflow A bytes (i ∷ is) other want none so e = absurd (none (bytes i) e)
+
 turn_correct : (w : Setting) (is : List ℕ) (ask : Bool) (pairs : List Pair) (at : ℕ) → AreCorrect w is
     → turn_or is (if ask then Halts else remind_or pairs) ≡ Turns at → w.is_correct at ≡ true
 turn_correct w [] true pairs at all e = absurd (cc)
@@ -70,9 +75,14 @@ turn_correct w (i ∷ is) ask pairs at all e = let same : i ≡ at = cc in subst
 pub turns_correct : (w : Setting) (until limit : ℕ) (es : List Event) (taken : ℕ) (p : Peers) (at : ℕ) → wants_of w until limit es taken p ≡ Turns at → w.is_correct at ≡ true
 turns_correct w until limit es taken p at = go (has_enough_rows w until es)
   where
-    go : (b : Bool) → (if b then Finishes else turn_or (busy w es) (if nat_le limit taken then Halts else remind_or (due w es (here w) p))) ≡ Turns at → w.is_correct at ≡ true
+    other : Want
+    other = turn_or (busy w es) (if nat_le limit taken then Halts else remind_or (due w es (here w) p))
+
+    go : (b : Bool) → (if b then Finishes else overflow_or (kept_bytes w p) (overfull w p) other) ≡ Turns at → w.is_correct at ≡ true
     go true e = absurd (cc)
-    go false e = turn_correct w (busy w es) (nat_le limit taken) (due w es (here w) p) at (correct_busy w es) e
+    go false e =
+        behind_overflow _ (kept_bytes w p) (overfull w p) other (Turns at) (λ k no. absurd (cc))
+        (turn_correct w (busy w es) (nat_le limit taken) (due w es (here w) p) at (correct_busy w es)) e
 
 remind_peer : (w : Setting) (is : List ℕ) (ask : Bool) (pairs : List Pair) (i j : ℕ) → AllByRecursion (IsPeerOf w) pairs
     → turn_or is (if ask then Halts else remind_or pairs) ≡ Reminds i j → (w.is_correct i ≡ true) × (j < w.numbers.n)
@@ -89,7 +99,11 @@ pub reminds_peer : (w : Setting) (until limit : ℕ) (es : List Event) (taken : 
     → (w.is_correct i ≡ true) × (j < w.numbers.n)
 reminds_peer w until limit es taken p i j = go (has_enough_rows w until es)
   where
-    go : (b : Bool) → (if b then Finishes else turn_or (busy w es) (if nat_le limit taken then Halts else remind_or (due w es (here w) p))) ≡ Reminds i j
-        → (w.is_correct i ≡ true) × (j < w.numbers.n)
+    other : Want
+    other = turn_or (busy w es) (if nat_le limit taken then Halts else remind_or (due w es (here w) p))
+
+    go : (b : Bool) → (if b then Finishes else overflow_or (kept_bytes w p) (overfull w p) other) ≡ Reminds i j → (w.is_correct i ≡ true) × (j < w.numbers.n)
     go true e = absurd (cc)
-    go false e = remind_peer w (busy w es) (nat_le limit taken) (due w es (here w) p) i j (due_peers w es p (here w) (correct_here w)) e
+    go false e =
+        behind_overflow _ (kept_bytes w p) (overfull w p) other (Reminds i j) (λ k no. absurd (cc))
+        (remind_peer w (busy w es) (nat_le limit taken) (due w es (here w) p) i j (due_peers w es p (here w) (correct_here w))) e

@@ -49,6 +49,7 @@ abbrev pub KeptAt : Moment → Reach → List Event → List Event → List Even
 KeptAt now far kept group older ends.Done = now.stands kept
 KeptAt now far kept group older ends.Limit = now.stands kept
 KeptAt now far kept group older ends.End = now.stands kept
+KeptAt now far kept group older (ends.KeptFull x) = now.stands kept
 KeptAt now far kept group older ends.LinkFault = ArchiveLeftAt now far kept group older faults.Link
 KeptAt now far kept group older ends.TapeFault = ArchiveLeftAt now far kept group older faults.Tape
 KeptAt now far kept group older ends.Mem = ArchiveLeftAt now far kept group older faults.Mem

@@ -1,5 +1,5 @@
 -- Worked rows of what is kept for a peer and sent again, on frames of a few bytes.
-use Rattle.std.specs.Prelude.{◌≡◌, [], ◌∷◌, Some, None, true, false, refl}
+use Rattle.std.specs.Prelude.{◌≡◌, ◌+◌, [], ◌∷◌, Some, None, true, false, refl}
 use Rattle.ritas_base.specs.declared.mode.FrameVersion.TheVariants.{One, Two, Three}
 use Rattle.world_model.specs.MadeOrder.{MadeFrame}
 use Rattle.keyed_channel.specs.declared.note.Note.TheVariants.{Ack, Again}
@@ -7,6 +7,8 @@ use Rattle.node_loop.specs.Peers.{Peers, no_peers, keep_all, with_pending, has_c
 use Rattle.node_loop.specs.declared.peers.Mark.{Mark}
 use Rattle.node_loop.specs.Deeds.{Resent}
 use Rattle.node_loop.specs.Resending.{connected, noted_so}
+use Rattle.link_resume.specs.Lists.{may_have}
+use Rattle.node_loop.specs.Serving.{most_kept_in_all, overflow_or, Overflows, Asks}
 
 -- two frames of replica 0 for 1, with the numbers 0 and 1, of as many bytes as show their numbers
 abbrev zero : MadeFrame
@@ -103,3 +105,12 @@ due_rows : (has_come_further (record { progress = 3; held = 50 }) (record { prog
     × (has_come_further (record { progress = 3; held = 50 }) (record { progress = 4; held = 90 }) ≡ true)
     × (has_come_further (record { progress = 3; held = 50 }) (record { progress = 3; held = 90 }) ≡ false)
 due_rows = (refl, refl, refl, refl)
+
+-- in version 3 serving ends where more than 536,870,912 bytes are kept for all peers of a replica, and in the others it doesn't
+most_rows : (most_kept_in_all One ≡ None) × (most_kept_in_all Two ≡ None) × (may_have (most_kept_in_all Three) 536870912 ≡ true)
+    × (may_have (most_kept_in_all Three) 536870913 ≡ false) × (may_have (most_kept_in_all Two) 536870913 ≡ true)
+most_rows = (refl, refl, refl, refl, refl)
+
+-- it tells the bytes of the first such replica, and goes on where there is none
+overflow_rows : (overflow_or (λ i. i + 600000000) (1 ∷ 3 ∷ []) Asks ≡ Overflows 600000001) × (overflow_or (λ i. i + 600000000) [] Asks ≡ Asks)
+overflow_rows = (refl, refl)

@@ -10,7 +10,7 @@ use Rattle.node_loop.specs.declared.end.Fault.TheVariants as faults
 use Rattle.node_loop.specs.declared.house.House.{House}
 use Rattle.node_loop.specs.declared.rounds.Next.{Next}
 use Rattle.node_loop.specs.declared.rounds.Next.TheVariants as next
-use Rattle.node_loop.specs.Serving.{Serving, so_far, Want, Finishes, Turns, Halts, Reminds, Asks, Round, after_from, AreWantedFrom}
+use Rattle.node_loop.specs.Serving.{Serving, so_far, Want, Finishes, Overflows, Turns, Halts, Reminds, Asks, Round, after_from, AreWantedFrom}
 use Rattle.node_loop.specs.Queries.{RoundsFit, QueriesFit}
 use Rattle.node_loop.specs.Told.{AreGroups, IsNewestOver, after_groups, given_in, told_from}
 use Rattle.node_loop.specs.Outs.{Outs, Tells, Agrees}
@@ -65,6 +65,7 @@ IsOfTape (faults.Full x) = ⊥
 -- what is done next is what is wanted, where none of the first items is left
 abbrev pub IsNext : Want → Next → Type 0
 IsNext Finishes next.Finish = Unit {0}
+IsNext (Overflows x) (next.Overflow y) = x ≡ y
 IsNext (Turns i) (next.Turn j) = i ≡ j
 IsNext Halts next.Halt = Unit {0}
 IsNext (Reminds i j) (next.Remind pair) = (i ≡ pair.at) × (j ≡ pair.peer)

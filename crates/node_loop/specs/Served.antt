@@ -15,7 +15,7 @@ use Rattle.world_model.specs.Stands.{NoneStops, IsReplica}
 use Rattle.node_loop.specs.declared.end.Fault.TheVariants as faults
 use Rattle.node_loop.specs.declared.end.ServeEnd.{ServeEnd}
 use Rattle.node_loop.specs.declared.end.ServeEnd.TheVariants as ends
-use Rattle.node_loop.specs.Serving.{Serving, begin, so_far, Want, Finishes, Halts, Asks, wants, Round}
+use Rattle.node_loop.specs.Serving.{Serving, begin, so_far, Want, Finishes, Overflows, Halts, Asks, wants, Round}
 use Rattle.node_loop.specs.Told.{AreGroups, after_groups, before_newest, newest_calls, sooner}
 use Rattle.node_loop.specs.Outs.{Outs, Tells, Agrees, StopsPartway}
 use Rattle.node_loop.specs.Queries.{QueriesFit}
@@ -57,6 +57,7 @@ abbrev pub EndsSo : {S E C : Type 0} → Meaning S E C KeyRow → Setting → Li
 EndsSo m w past numbers here tells base now ends.Done earlier s sooner news rule = Whole m w past numbers here tells base now s (news ++ sooner) rule Finishes
 EndsSo m w past numbers here tells base now ends.Limit earlier s sooner news rule = Whole m w past numbers here tells base now s (news ++ sooner) rule Halts
 EndsSo m w past numbers here tells base now ends.End earlier s sooner news rule = Whole m w past numbers here tells base now s (Gives items.End ∷ (news ++ sooner)) rule Asks
+EndsSo m w past numbers here tells base now (ends.KeptFull x) earlier s sooner news rule = Whole m w past numbers here tells base now s (news ++ sooner) rule (Overflows x)
 EndsSo m w past numbers here tells base now ends.LinkFault earlier s sooner news rule =
     Breaks tells base now ends.LinkFault earlier s.events sooner news × AreHere m w (so_far past s) numbers here
 EndsSo m w past numbers here tells base now ends.TapeFault earlier s sooner news rule =

@@ -1,7 +1,10 @@
 -- What serving does: which calls it makes on the replicas of a world that are here, its correct ones, and which frames and replies the
 -- link is given. Lists of events, of the link's calls and of rounds have the newest first.
-use Rattle.std.specs.Prelude.{◌≡◌, ℕ, ◌+◌, ◌<◌, ◌^◌, Bool, true, false, not, ◌&&◌, ◌==◌, List, [], ◌∷◌, ◌++◌, length, map, filter, reverse, Option, Some, None, nat_le, if◌then◌else◌}
+use Rattle.std.specs.Prelude.{◌≡◌, ℕ, ◌+◌, ◌<◌, ◌^◌, Bool, true, false, not, ◌&&◌, ◌==◌, List, [], ◌∷◌, ◌++◌, length, map, filter, reverse, sum_by, Option, Some, None, nat_le, if◌then◌else◌}
 use Rattle.std.specs.List.{list_all}
+use Rattle.ritas_base.specs.declared.mode.FrameVersion.{FrameVersion}
+use Rattle.ritas_base.specs.declared.mode.FrameVersion.TheVariants.{One, Two, Three}
+use Rattle.link_resume.specs.Lists.{bytes_in, may_have}
 use Rattle.ritas_base.specs.declared.event.Event.{Event}
 use Rattle.ritas_base.specs.declared.event.Event.TheVariants as events
 use Rattle.ritas_base.specs.declared.item.Item.{Item}
@@ -64,11 +67,12 @@ with_outcome did more s = record s { waiting = did.waiting; peers = more.peers; 
 
 -- ---- the rules
 
--- what it does next: it takes up one of its first items, ends as done, takes a turn at a replica, ends at its limit, asks a marked peer of a
--- replica to send again, or asks the link
+-- what it does next: it takes up one of its first items, ends as done, ends as so many bytes are kept, takes a turn at a replica, ends at its
+-- limit, asks a marked peer of a replica to send again, or asks the link
 pub data Want : Type 0 where
   Begins : LinkItem → Want
   Finishes : Want
+  Overflows : ℕ → Want
   Turns : ℕ → Want
   Halts : Want
   Reminds : ℕ → ℕ → Want
@@ -90,6 +94,33 @@ is_busy (item ∷ inbox) = true
 abbrev pub busy : Setting → List Event → List ℕ
 busy w es = filter (λ i. is_busy (states_of w es i).inbox) (here w)
 
+-- ---- what is kept for the peers of a replica
+
+-- the most bytes that are kept for all peers of a replica in a session of version 3; in versions 1 and 2 there is no such limit
+abbrev pub most_kept_in_all : FrameVersion → Option ℕ
+most_kept_in_all One = None
+most_kept_in_all Two = None
+most_kept_in_all Three = Some 536870912
+
+-- how many are
+abbrev pub kept_bytes : Setting → Peers → ℕ → ℕ
+kept_bytes w p i = sum_by (λ j. bytes_in (p.keeping i j)) (replicas w.numbers.n)
+
+-- they are more
+abbrev pub is_overfull : Setting → Peers → ℕ → Bool
+is_overfull w p i = not (may_have (most_kept_in_all w.mode.version) (kept_bytes w p i))
+
+-- the replicas here for whose peers too many bytes are kept, in order
+abbrev pub overfull : Setting → Peers → List ℕ
+overfull w p = filter (is_overfull w p) (here w)
+
+-- it ends with the bytes that are kept at the first of these, or else this
+abbrev pub overflow_or : (ℕ → ℕ) → List ℕ → Want → Want
+overflow_or bytes [] other = other
+overflow_or bytes (i ∷ is) other = Overflows (bytes i)
+
+-- ---- what is wanted
+
 -- a turn at the first of these, or else this
 abbrev pub turn_or : List ℕ → Want → Want
 turn_or [] other = other
@@ -102,7 +133,8 @@ remind_or (pair ∷ pairs) = Reminds pair.at pair.peer
 
 abbrev pub wants_of : Setting → ℕ → ℕ → List Event → ℕ → Peers → Want
 wants_of w until limit es taken p =
-    if has_enough_rows w until es then Finishes else turn_or (busy w es) (if nat_le limit taken then Halts else remind_or (due w es (here w) p))
+    if has_enough_rows w until es then Finishes
+    else overflow_or (kept_bytes w p) (overfull w p) (turn_or (busy w es) (if nat_le limit taken then Halts else remind_or (due w es (here w) p)))
 
 abbrev pub first_or : List LinkItem → Want → Want
 first_or [] other = other

@@ -23,6 +23,8 @@ pub enum ServeEnd {
     DiskFault,
     /// With the newest events the journal would be so long, which is too long.
     JournalFull(u64),
+    /// So many bytes are kept for the peers of a replica, which are too many.
+    KeptFull(u128),
 }
 
 /// Why serving can't go on.

@@ -25,8 +25,8 @@ pub(crate) struct House<S: Service, E: Broadcast, C: Coin + Drop> {
     pub keepers: Vec<Keeper>,
 }
 
-// Whether a number is less than the least one, if there is one.
-fn is_less(number: u8, least: Option<u8>) -> bool
+/// Whether a number is less than the least one, if there is one.
+pub(crate) fn is_less(number: u8, least: Option<u8>) -> bool
     ensures value { result ≡ is_before_other number least }
 {
     match least {
@@ -35,8 +35,8 @@ fn is_less(number: u8, least: Option<u8>) -> bool
     }
 }
 
-// The number of a replica.
-fn number_of<S: Service, E: Broadcast, C: Coin + Drop>(replica: &Replica<S, E, C>) -> u8
+/// The number of a replica.
+pub(crate) fn number_of<S: Service, E: Broadcast, C: Coin + Drop>(replica: &Replica<S, E, C>) -> u8
     ensures number { let m = meaning_of S.Service E.Broadcast C.Coin in
         (w : Setting) (states : ℕ → CoreState) (i : ℕ) → IsReplica m w states i replica.now → result ≡ (w.keys i).me }
 {

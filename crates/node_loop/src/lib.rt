@@ -20,6 +20,7 @@
 //!   number on: it is sent one frame from there on, and with its acknowledgement the batches behind it
 //!   follow, up to the newest frame. Where batches are under way that will come to that number, nothing goes
 //!   out beside them, and they go on up to the newest frame.
+//!   Serving ends where more than 536,870,912 bytes are kept for all peers of a replica.
 #![tactic(auto)]
 
 mod again;
@@ -32,6 +33,7 @@ mod enter;
 mod group;
 mod house;
 mod index;
+mod kept;
 mod laws;
 mod output;
 mod past;

@@ -25,6 +25,7 @@ use std::sync::Wait;
 #[derive(Clone, Copy)]
 pub(crate) enum Next {
     Finish,
+    Overflow(u128),
     Turn(u8),
     Halt,
     Remind(Pair),
@@ -35,10 +36,12 @@ pub(crate) enum Next {
 /// gives. Again and again, the first of these that applies is done:
 ///
 /// 1. It ends with `Done` where `until` isn't 0 and every log has at least that many rows.
-/// 2. A turn is taken at the least replica whose inbox isn't empty, if there is one.
-/// 3. It ends with `Limit` where `limit` items of the link were taken.
-/// 4. The least peer, of the least replica that has one, which is to be asked to send again, is asked: an AGAIN goes to it.
-/// 5. The link's next item is taken; it ends with `End` where that is the link's end.
+/// 2. It ends with `KeptFull` where in version 3 more than 536,870,912 bytes of frames are kept for the peers of a replica, the least if there are
+///    several.
+/// 3. A turn is taken at the least replica whose inbox isn't empty, if there is one.
+/// 4. It ends with `Limit` where `limit` items of the link were taken.
+/// 5. The least peer, of the least replica that has one, which is to be asked to send again, is asked: an AGAIN goes to it.
+/// 6. The link's next item is taken; it ends with `End` where that is the link's end.
 ///
 /// A frame for a replica that is here is a call of its `on_frame`; a client's query is given a piece of the log at once, and any other message
 /// of a client is answered or submitted (`specs/Calls.antt`).
@@ -134,6 +137,8 @@ impl<S: Service, E: Broadcast, C: Coin + Drop> House<S, E, C> {
     {
         if self.is_done(pace.until) {
             Next::Finish
+        } else if let Some(bytes) = self.overflow() {
+            Next::Overflow(bytes)
         } else if let Some(at) = self.least_busy() {
             Next::Turn(at)
         } else if pace.taken >= pace.limit {

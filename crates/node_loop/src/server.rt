@@ -136,6 +136,7 @@ impl<L: Link, K: Sink, A: Archive<D>, D> Server<'_, '_, '_, '_, '_, L, K, A, D> 
     {
         match house.what_next(self.pace) {
             Next::Finish => Err(ServeEnd::Done),
+            Next::Overflow(bytes) => Err(ServeEnd::KeptFull(bytes)),
             Next::Turn(at) => {
                 house.join_turn(self.alloc, at, self.group)?;
                 Ok(())
@@ -209,6 +210,7 @@ impl<L: Link, K: Sink, A: Archive<D>, D> Server<'_, '_, '_, '_, '_, L, K, A, D> 
             }
             Next::Ask => self.take_more(house),
             Next::Finish => Ok(false),
+            Next::Overflow(_) => Ok(false),
             Next::Halt => Ok(false),
             Next::Remind(_) => Ok(false),
         }

@@ -30,6 +30,7 @@ kept_counts : (me : ℕ) (head : List ℕ) (past : List Event) (outs : Outs) (d 
 kept_counts me head past outs d far kept group older ends.Done held = stood _ _ _ (λ e. cc e) held.none_failed
 kept_counts me head past outs d far kept group older ends.Limit held = stood _ _ _ (λ e. cc e) held.none_failed
 kept_counts me head past outs d far kept group older ends.End held = stood _ _ _ (λ e. cc e) held.none_failed
+kept_counts me head past outs d far kept group older (ends.KeptFull x) held = stood _ _ _ (λ e. cc e) held.none_failed
 kept_counts me head past outs d far kept group older ends.LinkFault (inl held) = stood _ _ _ (λ e. cc e) held.1.none_failed
 kept_counts me head past outs d far kept group older ends.LinkFault (inr held) = stood _ _ _ (λ e. cc e) held.1.none_failed
 kept_counts me head past outs d far kept group older ends.TapeFault (inl held) = stood _ _ _ (λ e. cc e) held.none_failed

@@ -15,7 +15,7 @@ use Rattle.node_loop.specs.declared.end.ServeEnd.{ServeEnd}
 use Rattle.node_loop.specs.declared.end.ServeEnd.TheVariants as ends
 use Rattle.node_loop.specs.Outs.{Outs, TapeFailed, LinkFailed, FellShort, Tells, Agrees, StopsPartway}
 use Rattle.node_loop.specs.Served.{Breaks, EndsSo, Whole}
-use Rattle.node_loop.specs.Serving.{Serving, Want, Finishes, Halts, Asks}
+use Rattle.node_loop.specs.Serving.{Serving, Want, Finishes, Overflows, Halts, Asks}
 use Rattle.node_session.specs.declared.session.Session.{Session}
 use Rattle.node_session.specs.Session.{TookAll, TookPart, last_acts, CameTo, Broke, NotClosed, SessionEnds}
 use Rattle.node_session.specs.Opening.{HasBegun, Closes, Closed, Failed, is_reason}
@@ -76,6 +76,8 @@ module _ (x : Session) (w : Setting) (tells : Tells) where
       ended ends.Done result so same link closed kept = closes Finishes (news ++ sooner) ends.Done result so same link (closed refl) (λ took. took) refl
       ended ends.Limit result so same link closed kept = closes Halts (news ++ sooner) ends.Limit result so same link (closed refl) (λ took. took) refl
       ended ends.End result so same link closed kept = closes Asks (Gives items.End ∷ (news ++ sooner)) ends.End result so same link (closed refl) (λ took. took) refl
+      ended (ends.KeptFull bytes) result so same link closed kept =
+          closes (Overflows bytes) (news ++ sooner) (ends.KeptFull bytes) result so same link (closed refl) (λ took. took) refl
       ended ends.LinkFault result so same link closed kept =
           let k = kept refl in
           subst EndedAt (sym k.0) (

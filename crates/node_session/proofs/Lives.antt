@@ -70,6 +70,7 @@ all_kept now far kept group older tells old new before after end result reason s
     here ends.Done is = stands
     here ends.Limit is = stands
     here ends.End is = stands
+    here (ends.KeptFull bytes) is = stands
     here end is = absurd (cc is)
 all_kept now far kept group older tells old new before after end result reason stands (Failed is rises later lost) = subst (LifeKept now far kept group older) (sym is) (inl stands)
 
@@ -143,6 +144,8 @@ module _ (x : Session) (w : Setting) (tells : Tells) {S E C : Type 0} (m : Meani
       by_end ends.Done so held closed same = all_kept (moment last stands fails) _ kept group older _ _ _ _ _ ends.Done result refl held (closed refl)
       by_end ends.Limit so held closed same = all_kept (moment last stands fails) _ kept group older _ _ _ _ _ ends.Limit result refl held (closed refl)
       by_end ends.End so held closed same = all_kept (moment last stands fails) _ kept group older _ _ _ _ _ ends.End result refl held (closed refl)
+      by_end (ends.KeptFull bytes) so held closed same =
+          all_kept (moment last stands fails) _ kept group older _ _ _ _ _ (ends.KeptFull bytes) result refl held (closed refl)
       by_end ends.LinkFault so held closed same = subst at (sym (same refl).0) (elim held [
         | inl all ↦ inl (recorded s.events (same refl).1 all.0, all.1)
         | inr some ↦ inr (nothing_came (same refl).1 some.0, some.1)

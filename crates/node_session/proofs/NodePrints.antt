@@ -19,7 +19,7 @@ use Rattle.node_loop.specs.Laws.{all_frames_of}
 use Rattle.node_loop.specs.LivesPrint.{first_sendings, MakesFirsts, life_deeds}
 use Rattle.node_loop.specs.Outs.{Outs, Tells}
 use Rattle.node_loop.specs.Recovering.{recovered}
-use Rattle.node_loop.specs.Serving.{Serving, so_far, Want, Begins, Finishes, Turns, Halts, Reminds, Asks, Round}
+use Rattle.node_loop.specs.Serving.{Serving, so_far, Want, Begins, Finishes, Overflows, Turns, Halts, Reminds, Asks, Round}
 use Rattle.node_loop.specs.Told.{AreGroups, after_groups}
 use Rattle.node_loop.proofs.Printing.{OneReading, kept_in, deeds_in, news_in, sooner_in, newest_in, earlier_in, newest_and_earlier, kept_make, all_print, older_print, either_print}
 use Rattle.schedule_replay.specs.Layers.{setting_of}
@@ -54,6 +54,7 @@ last_behind : (before now acts start : List LinkAct) (rule : Want) → TookBack 
 last_behind before now acts start Asks took = took
 last_behind before now acts start (Begins item) took = back_more before now (acts ++ start) (Gives items.End ∷ []) took
 last_behind before now acts start Finishes took = back_more before now (acts ++ start) (Gives items.End ∷ []) took
+last_behind before now acts start (Overflows x) took = back_more before now (acts ++ start) (Gives items.End ∷ []) took
 last_behind before now acts start (Turns i) took = back_more before now (acts ++ start) (Gives items.End ∷ []) took
 last_behind before now acts start Halts took = back_more before now (acts ++ start) (Gives items.End ∷ []) took
 last_behind before now acts start (Reminds i j) took = back_more before now (acts ++ start) (Gives items.End ∷ []) took
@@ -155,6 +156,7 @@ module _ (x : Session) (w : Setting) (going : NoneStops w) (past : List Event) (
       → Prints
   life_prints ends.Done before written s rule so held = whole_left held so.1.told
   life_prints ends.Limit before written s rule so held = whole_left held so.1.told
+  life_prints (ends.KeptFull bytes) before written s rule so held = whole_left held so.1.told
   life_prints ends.End before written s rule so held =
       some_left held (back_all base.told told ((Gives items.End ∷ acts) ++ Starts x.plan ∷ []) (so.1.told linked))
   life_prints ends.LinkFault before written s rule so held = elim held [

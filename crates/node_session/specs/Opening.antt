@@ -44,6 +44,7 @@ abbrev pub is_reason : ServeEnd → Bool
 is_reason ends.Done = true
 is_reason ends.Limit = true
 is_reason ends.End = true
+is_reason (ends.KeptFull x) = true
 is_reason ends.LinkFault = false
 is_reason ends.TapeFault = false
 is_reason ends.Mem = false

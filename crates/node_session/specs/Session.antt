@@ -24,7 +24,7 @@ use Rattle.node_loop.specs.Laws.{sent_as, all_frames_of, AreOpen, AreEarned, IsT
 use Rattle.node_loop.specs.Outs.{Outs, NoneFailed, TapeFailed, LinkFailed, FellShort, Tells, Agrees}
 use Rattle.node_loop.specs.PieceLaws.{IsPieceRead}
 use Rattle.node_loop.specs.Served.{MayBegin, Breaks}
-use Rattle.node_loop.specs.Serving.{Serving, Want, Begins, Finishes, Turns, Halts, Reminds, Asks, Round, begin, wants}
+use Rattle.node_loop.specs.Serving.{Serving, Want, Begins, Finishes, Overflows, Turns, Halts, Reminds, Asks, Round, begin, wants}
 use Rattle.node_loop.specs.Told.{AreGroups, after_groups, before_newest, told_from, newest_calls, sooner, deeds_from}
 use Rattle.node_session.specs.declared.session.Session.{Session}
 use Rattle.node_session.specs.Opening.{HasBegun, HasFailed}
@@ -54,6 +54,7 @@ pub record TookPart (h : Header) (plan : LinkPlan) (tells : Tells) (base now : O
 abbrev pub last_acts : Want → List LinkAct → List LinkAct
 last_acts (Begins item) acts = acts
 last_acts Finishes acts = acts
+last_acts (Overflows x) acts = acts
 last_acts (Turns i) acts = acts
 last_acts Halts acts = acts
 last_acts (Reminds i j) acts = acts
@@ -74,6 +75,7 @@ abbrev pub SessionEnds : Header → LinkPlan → Tells → Outs → Outs → Ser
 SessionEnds h plan tells base now ends.Done earlier s sooner news rule = (rule ≡ Finishes) × TookAll h plan tells base now s.events (news ++ sooner)
 SessionEnds h plan tells base now ends.Limit earlier s sooner news rule = (rule ≡ Halts) × TookAll h plan tells base now s.events (news ++ sooner)
 SessionEnds h plan tells base now ends.End earlier s sooner news rule = (rule ≡ Asks) × TookAll h plan tells base now s.events (Gives items.End ∷ (news ++ sooner))
+SessionEnds h plan tells base now (ends.KeptFull x) earlier s sooner news rule = (rule ≡ Overflows x) × TookAll h plan tells base now s.events (news ++ sooner)
 SessionEnds h plan tells base now ends.LinkFault earlier s sooner news rule =
     LinkFailed base now × TookPart h plan tells base now s.events (news ++ sooner) × CameTo h plan tells base now ends.LinkFault earlier s sooner news rule
 SessionEnds h plan tells base now ends.TapeFault earlier s sooner news rule =

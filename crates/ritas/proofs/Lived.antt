@@ -38,6 +38,7 @@ life_tape : (h : Header) (plan : LinkPlan) (tells : Tells) (base now : Outs) (en
 life_tape h plan tells base now ends.Done earlier s sooner news rule so = tape_counts h plan tells base now ends.Done earlier s sooner news rule so
 life_tape h plan tells base now ends.Limit earlier s sooner news rule so = tape_counts h plan tells base now ends.Limit earlier s sooner news rule so
 life_tape h plan tells base now ends.End earlier s sooner news rule so = tape_counts h plan tells base now ends.End earlier s sooner news rule so
+life_tape h plan tells base now (ends.KeptFull x) earlier s sooner news rule so = tape_counts h plan tells base now (ends.KeptFull x) earlier s sooner news rule so
 life_tape h plan tells base now ends.LinkFault earlier s sooner news rule so = tape_counts h plan tells base now ends.LinkFault earlier s sooner news rule so
 life_tape h plan tells base now ends.TapeFault earlier s sooner news rule so = tape_counts h plan tells base now ends.TapeFault earlier s sooner news rule so
 life_tape h plan tells base now ends.Mem earlier s sooner news rule so = tape_counts h plan tells base now ends.Mem earlier s sooner news rule so
@@ -50,6 +51,7 @@ life_link : (h : Header) (plan : LinkPlan) (tells : Tells) (base now : Outs) (en
 life_link h plan tells base now ends.Done earlier s sooner news rule so = link_counts h plan tells base now ends.Done earlier s sooner news rule so
 life_link h plan tells base now ends.Limit earlier s sooner news rule so = link_counts h plan tells base now ends.Limit earlier s sooner news rule so
 life_link h plan tells base now ends.End earlier s sooner news rule so = link_counts h plan tells base now ends.End earlier s sooner news rule so
+life_link h plan tells base now (ends.KeptFull x) earlier s sooner news rule so = link_counts h plan tells base now (ends.KeptFull x) earlier s sooner news rule so
 life_link h plan tells base now ends.LinkFault earlier s sooner news rule so = link_counts h plan tells base now ends.LinkFault earlier s sooner news rule so
 life_link h plan tells base now ends.TapeFault earlier s sooner news rule so = link_counts h plan tells base now ends.TapeFault earlier s sooner news rule so
 life_link h plan tells base now ends.Mem earlier s sooner news rule so = link_counts h plan tells base now ends.Mem earlier s sooner news rule so
@@ -79,6 +81,7 @@ nine_is : (end : ServeEnd) → end_status end ≡ 9 → end ≡ ends.DiskFault
 nine_is ends.Done e = absurd (omega (arith, e))
 nine_is ends.Limit e = absurd (omega (arith, e))
 nine_is ends.End e = absurd (omega (arith, e))
+nine_is (ends.KeptFull x) e = absurd (omega (arith, e))
 nine_is ends.LinkFault e = absurd (omega (arith, e))
 nine_is ends.TapeFault e = absurd (omega (arith, e))
 nine_is ends.Mem e = absurd (omega (arith, e))
@@ -111,6 +114,7 @@ pub no_disk : (session : Session) (first : List LinkItem) (w : Setting) (tells :
 no_disk session first w tells base now ends.Done serves e = omega (arith, e)
 no_disk session first w tells base now ends.Limit serves e = omega (arith, e)
 no_disk session first w tells base now ends.End serves e = omega (arith, e)
+no_disk session first w tells base now (ends.KeptFull x) serves e = omega (arith, e)
 no_disk session first w tells base now ends.LinkFault serves e = omega (arith, e)
 no_disk session first w tells base now ends.TapeFault serves e = omega (arith, e)
 no_disk session first w tells base now ends.Mem serves e = omega (arith, e)
@@ -233,6 +237,7 @@ module _ {K : Type 0} (config : NodeConfig) (tells : Tells) (taken : K → List 
       by_end ends.LinkFault e life = absurd (omega (arith, e))
       by_end ends.TapeFault e life = absurd (omega (arith, e))
       by_end ends.Mem e life = absurd (omega (arith, e))
+      by_end (ends.KeptFull x) e life = absurd (omega (arith, e))
       by_end ends.DiskFault e life = absurd (omega (arith, e))
       by_end (ends.JournalFull x) e life = absurd (omega (arith, e))
 

@@ -26,6 +26,7 @@ pub no_four : (end : ServeEnd) → end_status end ≢ 4
 no_four ends.Done e = omega (arith, e)
 no_four ends.Limit e = omega (arith, e)
 no_four ends.End e = omega (arith, e)
+no_four (ends.KeptFull x) e = omega (arith, e)
 no_four ends.LinkFault e = omega (arith, e)
 no_four ends.TapeFault e = omega (arith, e)
 no_four ends.Mem e = omega (arith, e)
@@ -36,6 +37,7 @@ pub no_two : (end : ServeEnd) → end_status end ≢ 2
 no_two ends.Done e = omega (arith, e)
 no_two ends.Limit e = omega (arith, e)
 no_two ends.End e = omega (arith, e)
+no_two (ends.KeptFull x) e = omega (arith, e)
 no_two ends.LinkFault e = omega (arith, e)
 no_two ends.TapeFault e = omega (arith, e)
 no_two ends.Mem e = omega (arith, e)
@@ -46,6 +48,7 @@ pub low : (end : ServeEnd) → end_status end ≤ 9
 low ends.Done = omega arith
 low ends.Limit = omega arith
 low ends.End = omega arith
+low (ends.KeptFull x) = omega arith
 low ends.LinkFault = omega arith
 low ends.TapeFault = omega arith
 low ends.Mem = omega arith
@@ -58,6 +61,7 @@ pub tape_counts : (h : Header) (plan : LinkPlan) (tells : Tells) (base now : Out
 tape_counts h plan tells base now ends.Done earlier s sooner news rule so = none_failed _ _ (λ e. omega (arith, e)) so.1.none_failed.0
 tape_counts h plan tells base now ends.Limit earlier s sooner news rule so = none_failed _ _ (λ e. omega (arith, e)) so.1.none_failed.0
 tape_counts h plan tells base now ends.End earlier s sooner news rule so = none_failed _ _ (λ e. omega (arith, e)) so.1.none_failed.0
+tape_counts h plan tells base now (ends.KeptFull x) earlier s sooner news rule so = none_failed _ _ (λ e. omega (arith, e)) so.1.none_failed.0
 tape_counts h plan tells base now ends.LinkFault earlier s sooner news rule so = none_failed _ _ (λ e. omega (arith, e)) so.0.0
 tape_counts h plan tells base now ends.TapeFault earlier s sooner news rule so = one_failed _ _ refl so.0.0
 tape_counts h plan tells base now ends.Mem earlier s sooner news rule so = none_failed _ _ (λ e. omega (arith, e)) so.0.0
@@ -70,6 +74,7 @@ pub link_counts : (h : Header) (plan : LinkPlan) (tells : Tells) (base now : Out
 link_counts h plan tells base now ends.Done earlier s sooner news rule so = link_stood _ _ 0 (λ e. omega (arith, e)) so.1.none_failed.1
 link_counts h plan tells base now ends.Limit earlier s sooner news rule so = link_stood _ _ 0 (λ e. omega (arith, e)) so.1.none_failed.1
 link_counts h plan tells base now ends.End earlier s sooner news rule so = link_stood _ _ 0 (λ e. omega (arith, e)) so.1.none_failed.1
+link_counts h plan tells base now (ends.KeptFull x) earlier s sooner news rule so = link_stood _ _ 7 (λ e. omega (arith, e)) so.1.none_failed.1
 link_counts h plan tells base now ends.LinkFault earlier s sooner news rule so = link_failed _ _ 6 refl so.0.1
 link_counts h plan tells base now ends.TapeFault earlier s sooner news rule so = link_stood _ _ 5 (λ e. omega (arith, e)) so.0.1
 link_counts h plan tells base now ends.Mem earlier s sooner news rule so = link_short _ _ 8 refl so.0.1
@@ -157,5 +162,6 @@ has_served session first tells base now untouched status (Served end is serves) 
     by_end ends.LinkFault e run = absurd (omega (arith, e))
     by_end ends.TapeFault e run = absurd (omega (arith, e))
     by_end ends.Mem e run = absurd (omega (arith, e))
+    by_end (ends.KeptFull x) e run = absurd (omega (arith, e))
     by_end ends.DiskFault e run = absurd (omega (arith, e))
     by_end (ends.JournalFull x) e run = absurd (omega (arith, e))

@@ -88,6 +88,7 @@ end_status serve_ends.TapeFault = 5
 end_status serve_ends.Mem = 8
 end_status serve_ends.DiskFault = 9
 end_status (serve_ends.JournalFull x) = 7
+end_status (serve_ends.KeptFull x) = 7
 
 -- the status of a journal that couldn't be opened, and its line; a fault of the disk or of memory has none
 abbrev pub journal_status : JournalFault → ℕ

@@ -177,8 +177,8 @@ fn work<R: Net + Wait, S: Source, K: Sink, L: Link, D: Disk>(
 ///   the report of that world; `drive schedule` writes the schedule's file. It is 0 or 1 by the audit.
 /// - `keys` deals the keys of all replicas of a session from a master key, and writes a line for each.
 /// - `node` starts the link with a replica's addresses, serves that replica, and writes a schedule file of what it took; `cluster` does so
-///   with all replicas of a session, and begins with the requests of its configuration. It is 0 where serving ended by its rules. A node
-///   whose configuration says so keeps a journal on the disk, and begins with what it kept before.
+///   with all replicas of a session, and begins with the requests of its configuration. It is 0 where serving ended by its rules, and 7
+///   by the rule of what is kept. A node whose configuration says so keeps a journal on the disk, and begins with what it kept before.
 /// - `submit` starts the link with the addresses of nodes, hands a request to each, and writes the position that f + 1 of them reply, with
 ///   0, or that there was none, with 1.
 /// - `watch` starts the link with the addresses of nodes, asks each for the rows of its log, and takes a row once f + 1 of
@@ -189,12 +189,13 @@ fn work<R: Net + Wait, S: Source, K: Sink, L: Link, D: Disk>(
 /// than 64 MiB. A text that isn't the job's configuration is answered with a line that names its first wrong or missing line, and 3, or 7
 /// for one that is longer than 1 MiB; a plan whose schedule would have more than 4,000,000 steps, or a file of more than 64 MiB, with a
 /// line that names that limit, and 7. A journal that is another session's, or broken, is answered with a line that names the place, and 3,
-/// and one that is longer than 64 MiB with the limit, and 7; where it becomes so long while it is kept, it is 7 without a line. Other words
-/// are answered with a line on usage, and 2. It is 4 where a call of the input failed, and then nothing was written; 5 where one of the
-/// output failed, which took a front of the text; 6 where one of the link failed, which only `node`, `cluster`, `submit` and `watch`
-/// use; and 9 where one of the disk failed: then a front of the file was written, or nothing where the journal couldn't be opened. By its count of
-/// faults just one call failed then, and none at any other status. It is 8 where memory ran out: then nothing was written of a report, of
-/// vectors or of a schedule that was made, and a front of frames or of what was served.
+/// and one that is longer than 64 MiB with the limit, and 7; where it becomes so long while it is kept, it is 7 without a line. It is
+/// so too, behind the whole file, where in a session of version 3 more than 536,870,912 bytes are kept for the peers of a replica. Other
+/// words are answered with a line on usage, and 2. It is 4 where a call of the input failed, and then nothing was written; 5 where one
+/// of the output failed, which took a front of the text; 6 where one of the link failed, which only `node`, `cluster`, `submit` and
+/// `watch` use; and 9 where one of the disk failed: then a front of the file was written, or nothing where the journal couldn't be opened.
+/// By its count of faults just one call failed then, and none at any other status. It is 8 where memory ran out: then nothing was written
+/// of a report, of vectors or of a schedule that was made, and a front of frames or of what was served.
 ///
 /// Of a schedule all is read before 0 or 1, and of a configuration one byte more than 1 MiB at most.
 ///

@@ -31,7 +31,7 @@ fn end_status(end: ServeEnd) -> u8
         ServeEnd::TapeFault => 5,
         ServeEnd::Mem => 8,
         ServeEnd::DiskFault => 9,
-        ServeEnd::JournalFull(_) => 7,
+        ServeEnd::JournalFull(_) | ServeEnd::KeptFull(_) => 7,
     }
 }
 

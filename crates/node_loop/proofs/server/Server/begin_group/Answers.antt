@@ -4,13 +4,19 @@ use Rattle.node_loop.specs.declared.end.ServeEnd.{ServeEnd}
 use Rattle.node_loop.specs.Serving.{so_far, Turned, Reminded}
 use Rattle.node_loop.specs.Told.{after_groups}
 use Rattle.node_loop.proofs.Rounding.{turn_at_correct, turn_wanted, remind_of_peer, remind_wanted}
-use Rattle.node_loop.proofs.Gathering.{finishes, halts, under_none, gathers_first, first_short}
+use Rattle.node_loop.proofs.Gathering.{finishes, overflows, halts, under_none, gathers_first, first_short}
 use Rattle.node_loop.proofs.server.Server.begin_group.Goals as goal
 
 pub returns-in-Finish-clause-begins : goal.returns-in-Finish-clause-begins
 returns-in-Finish-clause-begins g c = λ o run.
     let s = after_groups o.world o.past o.start run.groups in
     finishes _ o.world o.past o.numbers _ o.base _ _ o.start _ _ _ run (c.in-Finish.ensures.next o.world (so_far o.past s) o.numbers s.waiting s.peers run.stands)
+
+pub returns-in-Overflow-clause-begins : goal.returns-in-Overflow-clause-begins
+returns-in-Overflow-clause-begins g c = λ o run.
+    let s = after_groups o.world o.past o.start run.groups in
+    overflows _ o.world o.past o.numbers _ o.base _ _ o.start _ _ _ run c.in-Overflow.bytes
+    (c.in-Overflow.ensures.next o.world (so_far o.past s) o.numbers s.waiting s.peers run.stands)
 
 pub returns-in-Halt-clause-begins : goal.returns-in-Halt-clause-begins
 returns-in-Halt-clause-begins g c = λ o run.

@@ -1,9 +1,9 @@
 use Rattle.std.proofs.Common.{[], Err, ap, ◌∙◌, arith}
 use Rattle.std.proofs.lemmas.Result.{err_from_is_err_and}
 use Rattle.node_loop.specs.declared.end.Fault.{Fault}
-use Rattle.node_loop.specs.Serving.{so_far, after_from, Finishes, Halts, Reminds, Turned}
+use Rattle.node_loop.specs.Serving.{so_far, after_from, Finishes, Overflows, Halts, Reminds, Turned}
 use Rattle.node_loop.specs.Told.{after_groups}
-use Rattle.node_loop.proofs.Rounding.{next_finish, next_halt, next_remind, wants_now, turn_at_correct, turn_wanted}
+use Rattle.node_loop.proofs.Rounding.{next_finish, next_overflow, next_halt, next_remind, wants_now, turn_at_correct, turn_wanted}
 use Rattle.node_loop.proofs.Gathering.{calls_with_turn, may_join, gathers_more, more_short, over_where}
 use Rattle.node_loop.proofs.server.Server.join_more.Goals as goal
 
@@ -25,6 +25,20 @@ returns-in-Finish-clause-gathers g c = λ o many goes lt run.
       within = omega (arith, lt);
       run = run;
       over = over_where _ o.world o.past o.numbers _ o.base pace.until pace.limit o.start _ _ _ pace.taken [] many run Finishes same (λ i turn. absurd (cc));
+    }
+
+pub returns-in-Overflow-clause-gathers : goal.returns-in-Overflow-clause-gathers
+returns-in-Overflow-clause-gathers g c = λ o many goes lt run.
+    let pace = c.args.self.now.pace in
+    let bytes = c.in-Overflow.field-0 in
+    let s = after_from o.world o.past (after_groups o.world o.past o.start run.older) run.newest in
+    let is = c.in-Overflow.ensures.next o.world (so_far o.past s) o.numbers s.waiting s.peers run.under.stands in
+    let same = wants_now o.world o.past pace.until pace.limit s pace.taken run.rest run.items ∙ next_overflow _ bytes is in
+    record {
+      many = many;
+      within = omega (arith, lt);
+      run = run;
+      over = over_where _ o.world o.past o.numbers _ o.base pace.until pace.limit o.start _ _ _ pace.taken [] many run (Overflows bytes) same (λ i turn. absurd (cc));
     }
 
 pub returns-in-Halt-clause-gathers : goal.returns-in-Halt-clause-gathers
