@@ -154,7 +154,12 @@ class Run:
     def settle(self) -> None:
         """Waits until each frame between these nodes was acknowledged, and all that came is taken."""
         sights = [self.sights[way] for pair in self.pairs() for way in (pair, pair[::-1])]
-        self.load.serve_until(lambda: not any(sight.unacknowledged for sight in sights), lambda: "; ".join(filter(None, map(unacknowledged, sights))))
+
+        def is_settled() -> bool:
+            self.proxy.look()
+            return not any(sight.unacknowledged for sight in sights)
+
+        self.load.serve_until(is_settled, lambda: "; ".join(filter(None, map(unacknowledged, sights))))
         serving.await_quiet(self.nodes)
 
     def connect_anew(self) -> None:
@@ -163,6 +168,7 @@ class Run:
         self.proxy.cut_all(self.pairs())
         self.await_links(len(self.pairs()))
         self.load.confirm_all(self.load.add(1))
+        self.proxy.look()
         again = self.sights.total("resends") - before
         check(again == 0, f"{again} frames went out again though they had come")
 

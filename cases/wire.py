@@ -8,7 +8,7 @@ import time
 
 import serving
 
-MOST_READ = 1 << 18
+MOST_READ, MOST_UNSEEN = 1 << 18, 1 << 17
 TICK = 0.02
 # So that closing a connection resets it.
 RESETS = struct.pack("ii", 1, 0)
@@ -39,7 +39,6 @@ class Flow:
 
     def see(self, text: bytes) -> None:
         """Takes the whole pieces of what came."""
-        self.sight.bytes += len(text)
         came, at = self.rest + text, self.at
         while len(came) >= at + 2 and len(came) >= (end := at + 2 + int.from_bytes(came[at : at + 2], "big")):
             self.sight.take(came[at + 2 : end])
@@ -101,6 +100,10 @@ class Link:
         """How many bytes came, from both."""
         return self.out.taken + self.back.taken
 
+    def is_busy(self) -> bool:
+        """Whether something waits in it, or one of its sides has ended."""
+        return any(flow.queue or flow.has_ended or flow.is_dead for flow in self.flows)
+
     def flow_of(self, source: socket.socket) -> Flow:
         return self.out if source is self.out.source else self.back
 
@@ -148,6 +151,8 @@ class Proxy(threading.Thread):
         self.sights, self.lot, self.weather = sights, lot, Weather()
         self.selector, self.lock = selectors.DefaultSelector(), threading.Lock()
         self.doors, self.links, self.log = [], [], []
+        # What came and wasn't looked at yet, by its flow.
+        self.unseen = collections.deque()
         self.number = self.lost = self.overtaken = 0
         # Of each pair, how often its connection was cut.
         self.cuts = collections.Counter()
@@ -264,7 +269,8 @@ class Proxy(threading.Thread):
         text = flow.read()
         if not text:
             return
-        flow.see(text)
+        self.unseen.append((flow, text))
+        flow.sight.bytes += len(text)
         flow.taken += len(text)
         if flow.is_dead:
             flow.lost += len(text)
@@ -312,22 +318,38 @@ class Proxy(threading.Thread):
             if link in self.links and source.fileno() >= 0:
                 self.take(link, source)
         self.weather.ticks(self)
-        now = time.monotonic()
-        for link in list(self.links):
+        touched = {key.data.number for key, _ in events if isinstance(key.data, Link)}
+        now, links = time.monotonic(), [link for link in self.links if link.number in touched or link.is_busy()]
+        for link in links:
             self.settle(link, now)
 
+    def see_all(self) -> None:
+        """Looks at what came, in the order in which it did."""
+        while self.unseen:
+            flow, text = self.unseen.popleft()
+            flow.see(text)
+
+    def look(self) -> None:
+        """Whoever asks for what was seen looks first."""
+        with self.lock:
+            self.see_all()
+
     def run(self) -> None:
+        """What comes goes on at once, and is looked at when nothing comes, or there is much: so looking makes nothing late."""
         try:
             while self.goes:
                 events = self.selector.select(TICK)
                 with self.lock:
                     self.handle(events)
+                    if not events or len(self.unseen) > MOST_UNSEEN:
+                        self.see_all()
         except Exception as fault:  # told by whoever leaves
             self.fault = fault
 
     def leave(self) -> None:
         self.goes = False
         self.join()
+        self.see_all()
         for link in list(self.links):
             self.close(link)
         for door in self.doors:
