@@ -8,7 +8,7 @@ import time
 
 import serving
 
-MOST_READ, MOST_UNSEEN = 1 << 18, 1 << 17
+MOST_READ, MOST_UNSEEN, SEEN_AT_ONCE = 1 << 18, 1 << 17, 32
 TICK = 0.02
 # So that closing a connection resets it.
 RESETS = struct.pack("ii", 1, 0)
@@ -323,11 +323,14 @@ class Proxy(threading.Thread):
         for link in links:
             self.settle(link, now)
 
-    def see_all(self) -> None:
-        """Looks at what came, in the order in which it did."""
-        while self.unseen:
+    def see_some(self, count: int) -> None:
+        """Looks at so much of what came, in the order in which it did."""
+        for _ in range(min(count, len(self.unseen))):
             flow, text = self.unseen.popleft()
             flow.see(text)
+
+    def see_all(self) -> None:
+        self.see_some(len(self.unseen))
 
     def look(self) -> None:
         """Whoever asks for what was seen looks first."""
@@ -335,14 +338,14 @@ class Proxy(threading.Thread):
             self.see_all()
 
     def run(self) -> None:
-        """What comes goes on at once, and is looked at when nothing comes, or there is much: so looking makes nothing late."""
+        """What comes goes on at once. It is looked at when nothing comes, or there is much, and a little at a time: so looking makes nothing late."""
         try:
             while self.goes:
-                events = self.selector.select(TICK)
+                events = self.selector.select(0 if self.unseen else TICK)
                 with self.lock:
                     self.handle(events)
                     if not events or len(self.unseen) > MOST_UNSEEN:
-                        self.see_all()
+                        self.see_some(SEEN_AT_ONCE)
         except Exception as fault:  # told by whoever leaves
             self.fault = fault
 
