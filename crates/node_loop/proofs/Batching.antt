@@ -1,5 +1,5 @@
 -- What goes out again of what is kept for a peer.
-use Rattle.std.specs.Prelude.{◌≡◌, ℕ, ◌==◌, nat_lt, Bool, true, false, List, [], ◌∷◌, map, filter, length, Option, Some, None, refl, if◌then◌else◌}
+use Rattle.std.specs.Prelude.{◌≡◌, ℕ, nat_lt, Bool, true, false, List, [], ◌∷◌, map, filter, length, Option, Some, None, refl, if◌then◌else◌}
 use Rattle.std.specs.List.{AllByRecursion}
 use Rattle.ritas_base.specs.declared.mode.FrameVersion.{FrameVersion}
 use Rattle.ritas_base.specs.declared.mode.FrameVersion.TheVariants.{One, Two, Three}
@@ -10,7 +10,7 @@ use Rattle.node_loop.specs.declared.output.Part.TheVariants as parts_are
 use Rattle.node_loop.specs.declared.peers.Pending.{Pending}
 use Rattle.node_loop.specs.Deeds.{Resent}
 use Rattle.node_loop.specs.Peers.{Peers, with_pending, acknowledged}
-use Rattle.node_loop.specs.Resending.{Brought, nothing_more, part_of, resends, newest_in, most_batch_bytes, before, sends_batch, goes_on, begins_at, begins_unless, acked_so, asked_so, connected}
+use Rattle.node_loop.specs.Resending.{Brought, nothing_more, part_of, resends, newest_in, batch_step, has_none, before, sends_batch, goes_on, begins_at, begins_unless, acked_so, asked_so, connected}
 
 -- ---- a part of a list
 
@@ -56,21 +56,22 @@ either_resends : (i j : ℕ) (x y : Brought) (b : Bool) → OnlyResends i j x �
 either_resends i j x y true first second = first
 either_resends i j x y false first second = second
 
-goes_on_resends : (i j seq : ℕ) (pending : Option Pending) (p : Peers) → OnlyResends i j (goes_on i j seq pending p)
-goes_on_resends i j seq None p = none_resends i j p
-goes_on_resends i j seq (Some pending) p =
-    either_resends i j (sends_batch i j (Some seq) pending.end most_batch_bytes p) (nothing_more p) (pending.last == seq)
-    (batch_resends i j (Some seq) pending.end most_batch_bytes p) (none_resends i j p)
+goes_on_resends : (i j : ℕ) (pending : Option Pending) (p : Peers) → OnlyResends i j (goes_on i j pending p)
+goes_on_resends i j None p = none_resends i j p
+goes_on_resends i j (Some pending) p =
+    either_resends i j (sends_batch i j (Some pending.last) pending.end pending.most p) (nothing_more p)
+    (has_none (between pending.after pending.last (p.keeping i j)))
+    (batch_resends i j (Some pending.last) pending.end pending.most p) (none_resends i j p)
 
 pub acked_resends : (version : FrameVersion) (i j seq : ℕ) (p : Peers) → OnlyResends i j (acked_so version i j seq p)
 acked_resends One i j seq p = none_resends i j (acknowledged i j seq p)
 acked_resends Two i j seq p = none_resends i j (acknowledged i j seq p)
-acked_resends Three i j seq p = goes_on_resends i j seq (p.pending i j) (acknowledged i j seq p)
+acked_resends Three i j seq p = goes_on_resends i j (p.pending i j) (acknowledged i j seq p)
 
 begins_unless_resends : (i j seq : ℕ) (pending : Option Pending) (p : Peers) → OnlyResends i j (begins_unless i j seq pending p)
 begins_unless_resends i j seq None p = batch_resends i j (before seq) _ 0 p
 begins_unless_resends i j seq (Some pending) p =
-    either_resends i j (nothing_more (with_pending i j (Some (record { last = pending.last; end = newest_in (p.keeping i j) })) p)) (begins_at i j seq p)
+    either_resends i j (nothing_more (with_pending i j (Some (record pending { end = newest_in (p.keeping i j) })) p)) (begins_at i j seq p)
     (nat_lt pending.last seq) (none_resends i j _) (batch_resends i j (before seq) _ 0 p)
 
 pub asked_resends : (version : FrameVersion) (i j seq : ℕ) (p : Peers) → OnlyResends i j (asked_so version i j seq p)
@@ -81,4 +82,4 @@ asked_resends Three i j seq p = begins_unless_resends i j seq (p.pending i j) p
 pub connected_resends : (version : FrameVersion) (i j : ℕ) (p : Peers) → OnlyResends i j (connected version i j p)
 connected_resends One i j p = part_resends i j parts_are.All p
 connected_resends Two i j p = part_resends i j parts_are.All p
-connected_resends Three i j p = batch_resends i j None _ most_batch_bytes p
+connected_resends Three i j p = batch_resends i j None _ batch_step p

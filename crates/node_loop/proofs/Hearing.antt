@@ -25,7 +25,7 @@ use Rattle.ritas_core.specs.Machine.{CoreState}
 use Rattle.ritas_core.specs.Rules.{Rules}
 use Rattle.ritas_core.specs.Stands.{Meaning}
 use Rattle.link_resume.specs.declared.kept.Kept.{Kept}
-use Rattle.link_resume.specs.Lists.{Keepings, all_but}
+use Rattle.link_resume.specs.Lists.{Keepings, between, all_but}
 use Rattle.outside.specs.declared.link.LinkItem.{LinkItem}
 use Rattle.outside.specs.declared.link.LinkItem.TheVariants as items
 use Rattle.replica.specs.declared.refusal.Refusal.{Refusal}
@@ -54,7 +54,7 @@ use Rattle.node_loop.specs.Calls.{Outcome, event_called, silent, item_does, wait
 use Rattle.node_loop.specs.Deeds.{Acked}
 use Rattle.node_loop.specs.Peers.{Peers, is_pair, with_list, with_mark, early_with, marked_early, with_pending, acknowledged, keep_all}
 use Rattle.node_loop.specs.PeersStanding.{AreKept, AreMarked, ArePending, IsKeeper}
-use Rattle.node_loop.specs.Resending.{Brought, nothing_more, mark_at, is_deferred, opened_so, newest_in, most_batch_bytes, before, sends_batch, goes_on, begins_at, begins_unless, acked_so, asked_so, connected, noted_so, item_brings}
+use Rattle.node_loop.specs.Resending.{Brought, nothing_more, mark_at, is_deferred, opened_so, newest_in, batch_step, has_none, before, sends_batch, goes_on, begins_at, begins_unless, acked_so, asked_so, connected, noted_so, item_brings}
 use Rattle.node_loop.specs.Serving.{frames_made_by}
 use Rattle.node_loop.specs.Served.{AreHere}
 use Rattle.node_loop.specs.Standing.{HouseStands, ComesOut, IsEmptyOutput, IsMore, is_answer_opened, reply_by}
@@ -128,18 +128,19 @@ either_elsewhere : (version : FrameVersion) (n i : ℕ) (keeper : Keeper) (x y :
 either_elsewhere version n i keeper x y true first second = first
 either_elsewhere version n i keeper x y false first second = second
 
-goes_on_elsewhere : (version : FrameVersion) (n i at j seq : ℕ) (pending : Option Pending) (keeper : Keeper) (p : Peers) → (i ≡ at → ⊥) → IsKeeper version n i keeper p
-    → IsKeeper version n i keeper (goes_on at j seq pending p).peers
-goes_on_elsewhere version n i at j seq None keeper p other is = is
-goes_on_elsewhere version n i at j seq (Some pending) keeper p other is =
-    either_elsewhere version n i keeper (sends_batch at j (Some seq) pending.end most_batch_bytes p) (nothing_more p) (pending.last == seq)
-    (batch_elsewhere version n i at j (Some seq) pending.end most_batch_bytes keeper p other is) is
+goes_on_elsewhere : (version : FrameVersion) (n i at j : ℕ) (pending : Option Pending) (keeper : Keeper) (p : Peers) → (i ≡ at → ⊥) → IsKeeper version n i keeper p
+    → IsKeeper version n i keeper (goes_on at j pending p).peers
+goes_on_elsewhere version n i at j None keeper p other is = is
+goes_on_elsewhere version n i at j (Some pending) keeper p other is =
+    either_elsewhere version n i keeper (sends_batch at j (Some pending.last) pending.end pending.most p) (nothing_more p)
+    (has_none (between pending.after pending.last (p.keeping at j)))
+    (batch_elsewhere version n i at j (Some pending.last) pending.end pending.most keeper p other is) is
 
 acked_by : (by version : FrameVersion) (n i at j seq : ℕ) (keeper : Keeper) (p : Peers) → (i ≡ at → ⊥) → IsKeeper version n i keeper (acknowledged at j seq p)
     → IsKeeper version n i keeper (acked_so by at j seq p).peers
 acked_by One version n i at j seq keeper p other is = is
 acked_by Two version n i at j seq keeper p other is = is
-acked_by Three version n i at j seq keeper p other is = goes_on_elsewhere version n i at j seq (p.pending at j) keeper (acknowledged at j seq p) other is
+acked_by Three version n i at j seq keeper p other is = goes_on_elsewhere version n i at j (p.pending at j) keeper (acknowledged at j seq p) other is
 
 pub acked_elsewhere : (version : FrameVersion) (n i at j seq : ℕ) (keeper : Keeper) (p : Peers) → (i ≡ at → ⊥) → IsKeeper version n i keeper p
     → IsKeeper version n i keeper (acked_so version at j seq p).peers
@@ -150,7 +151,7 @@ begins_elsewhere : (version : FrameVersion) (n i at j seq : ℕ) (pending : Opti
     → IsKeeper version n i keeper (begins_unless at j seq pending p).peers
 begins_elsewhere version n i at j seq None keeper p other is = batch_elsewhere version n i at j (before seq) _ 0 keeper p other is
 begins_elsewhere version n i at j seq (Some pending) keeper p other is =
-    either_elsewhere version n i keeper (nothing_more (with_pending at j (Some (record { last = pending.last; end = newest_in (p.keeping at j) })) p)) (begins_at at j seq p)
+    either_elsewhere version n i keeper (nothing_more (with_pending at j (Some (record pending { end = newest_in (p.keeping at j) })) p)) (begins_at at j seq p)
     (nat_lt pending.last seq) (pending_elsewhere version n i at j _ keeper p other is) (batch_elsewhere version n i at j (before seq) _ 0 keeper p other is)
 
 asked_by : (by version : FrameVersion) (n i at j seq : ℕ) (keeper : Keeper) (p : Peers) → (i ≡ at → ⊥) → IsKeeper version n i keeper p
@@ -167,7 +168,7 @@ connected_by : (by version : FrameVersion) (n i at j : ℕ) (keeper : Keeper) (p
     → IsKeeper version n i keeper (connected by at j p).peers
 connected_by One version n i at j keeper p other is = is
 connected_by Two version n i at j keeper p other is = is
-connected_by Three version n i at j keeper p other is = batch_elsewhere version n i at j None _ most_batch_bytes keeper p other is
+connected_by Three version n i at j keeper p other is = batch_elsewhere version n i at j None _ batch_step keeper p other is
 
 pub connected_elsewhere : (version : FrameVersion) (n i at j : ℕ) (b : Bool) (keeper : Keeper) (p : Peers) → (i ≡ at → ⊥) → IsKeeper version n i keeper p
     → IsKeeper version n i keeper (if b then connected version at j p else nothing_more p).peers

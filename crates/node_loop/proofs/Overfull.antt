@@ -1,5 +1,5 @@
 -- Whether too many bytes are kept for the peers of a replica, and which is the least such replica.
-use Rattle.std.proofs.Common.{◌≡◌, ℕ, suc, ◌+◌, ◌<◌, ◌≤◌, Bool, true, false, not, ◌&&◌, nat_le, List, [], ◌∷◌, length, Option, Some, None, refl, sym, ◌∙◌, ap, ap₂, subst, arith, slice_index_or, sum_by, if◌then◌else◌}
+use Rattle.std.proofs.Common.{◌≡◌, ℕ, suc, ◌+◌, ◌<◌, Bool, true, false, not, ◌&&◌, nat_le, List, [], ◌∷◌, length, Option, Some, None, refl, sym, ◌∙◌, ap, ap₂, subst, arith, slice_index_or, sum_by, if◌then◌else◌}
 use Rattle.std.specs.List.{slice_get, range_with_len}
 use Rattle.std.specs.Option.{MatchOption, is_some}
 use Rattle.std.proofs.lemmas.List.Sums.{sum_by-cons}

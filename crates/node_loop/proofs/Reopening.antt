@@ -18,7 +18,7 @@ use Rattle.keyed_channel.specs.declared.frame.OpenFault.{OpenFault}
 use Rattle.keyed_channel.specs.declared.note.Note.{Note}
 use Rattle.keyed_channel.specs.declared.note.Note.TheVariants as notes
 use Rattle.link_resume.specs.declared.kept.Kept.{Kept}
-use Rattle.link_resume.specs.Lists.{bytes_in, most_kept, may_have, all_but, room_within, room_for}
+use Rattle.link_resume.specs.Lists.{bytes_in, most_kept, may_have, between, all_but, room_within, room_for}
 use Rattle.world_model.specs.World.{Setting, seen_of}
 use Rattle.world_model.specs.MadeOrder.{MadeFrame, all_made}
 use Rattle.node_loop.specs.Waiting.{Waiting}
@@ -29,7 +29,7 @@ use Rattle.node_loop.specs.Deeds.{Deed, Came, Made, Resent, Acked, Wished, Repli
 use Rattle.node_loop.specs.declared.output.Part.{Part}
 use Rattle.node_loop.specs.declared.output.Part.TheVariants as parts_are
 use Rattle.node_loop.specs.declared.peers.Pending.{Pending}
-use Rattle.node_loop.specs.Resending.{Brought, nothing_more, mark_at, is_deferred, opened_so, part_of, resends, newest_in, most_batch_bytes, before, sends_batch, goes_on, begins_at, begins_unless, acked_so, asked_so, connected, noted_so}
+use Rattle.node_loop.specs.Resending.{Brought, nothing_more, mark_at, is_deferred, opened_so, part_of, resends, newest_in, batch_step, has_none, before, sends_batch, goes_on, begins_at, begins_unless, acked_so, asked_so, connected, noted_so}
 use Rattle.node_loop.proofs.Batching.{part_all}
 use Rattle.node_loop.specs.Serving.{Serving, so_far, Round, Began, Turned, Reminded, Took, frames_made_by, brought, outcome, after_from}
 use Rattle.node_loop.specs.Told.{AreJoined, AreGroups, after_groups, came_in, with_deeds, newest_deeds, deeds_from}
@@ -245,33 +245,34 @@ either_good : (w : Setting) (x y : Brought) (ds : List Deed) (b : Bool) → Good
 either_good w x y ds true first second = first
 either_good w x y ds false first second = second
 
--- an acknowledgement of the last of a batch, and any other
-goes_on_good : (w : Setting) (i j seq : ℕ) (pending : Option Pending) (p : Peers) (ds : List Deed) → Good w p ds
-    → Good w (goes_on i j seq pending p).peers (pushed (goes_on i j seq pending p).deeds ds)
-goes_on_good w i j seq None p ds good = good
-goes_on_good w i j seq (Some pending) p ds good =
-    either_good w (sends_batch i j (Some seq) pending.end most_batch_bytes p) (nothing_more p) ds (pending.last == seq)
-    (batch_good w i j (Some seq) pending.end most_batch_bytes p ds good) good
+-- an acknowledgement, where all of the newest batch is taken with it and where it is not
+goes_on_good : (w : Setting) (i j : ℕ) (pending : Option Pending) (p : Peers) (ds : List Deed) → Good w p ds
+    → Good w (goes_on i j pending p).peers (pushed (goes_on i j pending p).deeds ds)
+goes_on_good w i j None p ds good = good
+goes_on_good w i j (Some pending) p ds good =
+    either_good w (sends_batch i j (Some pending.last) pending.end pending.most p) (nothing_more p) ds
+    (has_none (between pending.after pending.last (p.keeping i j)))
+    (batch_good w i j (Some pending.last) pending.end pending.most p ds good) good
 
 acked_so_good : (w : Setting) (version : FrameVersion) (i j seq : ℕ) (p : Peers) (ds : List Deed) → Good w (acknowledged i j seq p) ds
     → Good w (acked_so version i j seq p).peers (pushed (acked_so version i j seq p).deeds ds)
 acked_so_good w One i j seq p ds good = good
 acked_so_good w Two i j seq p ds good = good
-acked_so_good w Three i j seq p ds good = goes_on_good w i j seq (p.pending i j) (acknowledged i j seq p) ds good
+acked_so_good w Three i j seq p ds good = goes_on_good w i j (p.pending i j) (acknowledged i j seq p) ds good
 
 -- a connection
 connected_good : (w : Setting) (version : FrameVersion) (i j : ℕ) (p : Peers) (ds : List Deed) → Good w p ds
     → Good w (connected version i j p).peers (pushed (connected version i j p).deeds ds)
 connected_good w One i j p ds good = resends_good w i j parts_are.All p ds good
 connected_good w Two i j p ds good = resends_good w i j parts_are.All p ds good
-connected_good w Three i j p ds good = batch_good w i j None _ most_batch_bytes p ds good
+connected_good w Three i j p ds good = batch_good w i j None _ batch_step p ds good
 
 -- a note that asks for more
 begins_unless_good : (w : Setting) (i j seq : ℕ) (pending : Option Pending) (p : Peers) (ds : List Deed) → Good w p ds
     → Good w (begins_unless i j seq pending p).peers (pushed (begins_unless i j seq pending p).deeds ds)
 begins_unless_good w i j seq None p ds good = batch_good w i j (before seq) _ 0 p ds good
 begins_unless_good w i j seq (Some pending) p ds good =
-    either_good w (nothing_more (with_pending i j (Some (record { last = pending.last; end = newest_in (p.keeping i j) })) p)) (begins_at i j seq p) ds
+    either_good w (nothing_more (with_pending i j (Some (record pending { end = newest_in (p.keeping i j) })) p)) (begins_at i j seq p) ds
     (nat_lt pending.last seq) (pending_good w i j _ p ds good) (batch_good w i j (before seq) _ 0 p ds good)
 
 asked_so_good : (w : Setting) (version : FrameVersion) (i j seq : ℕ) (p : Peers) (ds : List Deed) → Good w p ds

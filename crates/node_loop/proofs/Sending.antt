@@ -13,7 +13,7 @@ use Rattle.node_loop.specs.declared.peers.Keeper.{Keeper}
 use Rattle.node_loop.specs.declared.peers.Pending.{Pending}
 use Rattle.node_loop.specs.Peers.{Peers, acknowledged}
 use Rattle.node_loop.specs.PeersStanding.{AreKept, IsKeeper}
-use Rattle.node_loop.specs.Resending.{Brought, nothing_more, resends, newest_in, most_batch_bytes, reached, sends_batch, goes_on, begins_unless, acked_so, asked_so, connected}
+use Rattle.node_loop.specs.Resending.{Brought, nothing_more, resends, newest_in, batch_step, grown, reached, sends_batch, goes_on, begins_unless, acked_so, asked_so, connected}
 use Rattle.node_loop.specs.Standing.{IsMore}
 use Rattle.node_loop.proofs.Hearing.{pending_there}
 use Rattle.node_loop.proofs.Keeping.{one_list}
@@ -41,12 +41,12 @@ answers_part w i peer part keeper p is below = record { stands = is; more = (bel
 -- a batch
 pub answers_batch : (w : Setting) (i peer : ℕ) (after : Option ℕ) (end most : ℕ) (pending : Option Pending) (old new : Keeper) (p : Peers)
     → IsKeeper w.mode.version w.numbers.n i old p → peer < w.numbers.n
-    → pending ≡ reached end (batch most (between after end (kept_for old.resume.lists peer))) → new ≡ record old { pending = new.pending }
+    → pending ≡ reached after end (grown most) (batch most (between after end (kept_for old.resume.lists peer))) → new ≡ record old { pending = new.pending }
     → new.pending.items ≡ slice_set old.pending.items peer pending
     → Answers w i new (mores.Kept peer (parts_are.Batch after end most)) (sends_batch i peer after end most p)
 answers_batch w i peer after end most pending old new p is below so rest set =
-    let now : Option Pending = reached end (batch most (between after end (p.keeping i peer))) in
-    let same : pending ≡ now = so ∙ ap (λ (ks : List Kept). reached end (batch most (between after end ks))) (is.kept.each peer below) in
+    let now : Option Pending = reached after end (grown most) (batch most (between after end (p.keeping i peer))) in
+    let same : pending ≡ now = so ∙ ap (λ (ks : List Kept). reached after end (grown most) (batch most (between after end ks))) (is.kept.each peer below) in
     record {
       stands = pending_there w.mode.version w.numbers.n i peer now old new p is rest (set ∙ ap (slice_set old.pending.items peer) same);
       more = (below, refl);
@@ -78,7 +78,7 @@ acked_earlier One i j seq p other = refl
 acked_earlier Two i j seq p other = refl
 acked_earlier Three i j seq p other = absurd (other refl)
 
-pub acked_three : (version : FrameVersion) (i j seq : ℕ) (p : Peers) → version ≡ Three → acked_so version i j seq p ≡ goes_on i j seq (p.pending i j) (acknowledged i j seq p)
+pub acked_three : (version : FrameVersion) (i j seq : ℕ) (p : Peers) → version ≡ Three → acked_so version i j seq p ≡ goes_on i j (p.pending i j) (acknowledged i j seq p)
 acked_three version i j seq p is = ap (λ (v : FrameVersion). acked_so v i j seq p) is
 
 pub asked_earlier : (version : FrameVersion) (i j seq : ℕ) (p : Peers) → (version ≡ Three → ⊥) → asked_so version i j seq p ≡ resends i j parts_are.All p
@@ -94,5 +94,5 @@ connected_earlier One i j p other = refl
 connected_earlier Two i j p other = refl
 connected_earlier Three i j p other = absurd (other refl)
 
-pub connected_three : (version : FrameVersion) (i j : ℕ) (p : Peers) → version ≡ Three → connected version i j p ≡ sends_batch i j None (newest_in (p.keeping i j)) most_batch_bytes p
+pub connected_three : (version : FrameVersion) (i j : ℕ) (p : Peers) → version ≡ Three → connected version i j p ≡ sends_batch i j None (newest_in (p.keeping i j)) batch_step p
 connected_three version i j p is = ap (λ (v : FrameVersion). connected v i j p) is

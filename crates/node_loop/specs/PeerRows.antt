@@ -6,7 +6,7 @@ use Rattle.keyed_channel.specs.declared.note.Note.TheVariants.{Ack, Again}
 use Rattle.node_loop.specs.Peers.{Peers, no_peers, keep_all, with_pending, has_come_further, early_with, asked_from}
 use Rattle.node_loop.specs.declared.peers.Mark.{Mark}
 use Rattle.node_loop.specs.Deeds.{Resent}
-use Rattle.node_loop.specs.Resending.{connected, noted_so}
+use Rattle.node_loop.specs.Resending.{connected, grown, noted_so}
 use Rattle.link_resume.specs.Lists.{may_have}
 use Rattle.node_loop.specs.Serving.{most_kept_in_all, overflow_or, Overflows, Asks}
 
@@ -58,38 +58,48 @@ kept_three = keep_all Three (zero ∷ one ∷ two ∷ []) no_peers
 
 -- a connection brings a batch, here of all three, and how far it went is noted
 connected_rows : ((connected Three 0 1 kept_three).deeds ≡ Resent 0 1 zero.bytes ∷ Resent 0 1 one.bytes ∷ Resent 0 1 two.bytes ∷ [])
-    × ((connected Three 0 1 kept_three).peers.pending 0 1 ≡ Some (record { last = 2; end = 2 }))
+    × ((connected Three 0 1 kept_three).peers.pending 0 1 ≡ Some (record { after = None; last = 2; end = 2; most = 2048 }))
     × ((connected Three 0 2 kept_three).peers.pending 0 2 ≡ None)
 connected_rows = (refl, refl, refl)
 
--- where the newest batch ended with number 0, and those up to 1 are to go out
+-- where the newest batch has number 0 alone, and those up to 1 are to go out
 abbrev under_way : Peers
-under_way = with_pending 0 1 (Some (record { last = 0; end = 1 })) kept_three
+under_way = with_pending 0 1 (Some (record { after = None; last = 0; end = 1; most = 1024 })) kept_three
 
 -- with the acknowledgement of that the next batch goes out, up to the end and no further; with another's number nothing does
 next_rows : ((noted_so Three 0 under_way (Some (Ack 1 0))).deeds ≡ Resent 0 1 one.bytes ∷ [])
-    × ((noted_so Three 0 under_way (Some (Ack 1 0))).peers.pending 0 1 ≡ Some (record { last = 1; end = 1 }))
+    × ((noted_so Three 0 under_way (Some (Ack 1 0))).peers.pending 0 1 ≡ Some (record { after = Some 0; last = 1; end = 1; most = 2048 }))
     × ((noted_so Three 0 under_way (Some (Ack 1 1))).deeds ≡ [])
-    × ((noted_so Three 0 under_way (Some (Ack 1 1))).peers.pending 0 1 ≡ Some (record { last = 0; end = 1 }))
+    × ((noted_so Three 0 under_way (Some (Ack 1 1))).peers.pending 0 1 ≡ Some (record { after = None; last = 0; end = 1; most = 1024 }))
     × ((noted_so Two 0 under_way (Some (Ack 1 0))).deeds ≡ [])
 next_rows = (refl, refl, refl, refl, refl)
 
--- with that of the last of all it is over
-over_rows : ((noted_so Three 0 (with_pending 0 1 (Some (record { last = 2; end = 2 })) kept_three) (Some (Ack 1 2))).deeds ≡ [])
-    × ((noted_so Three 0 (with_pending 0 1 (Some (record { last = 2; end = 2 })) kept_three) (Some (Ack 1 2))).peers.pending 0 1 ≡ None)
-over_rows = (refl, refl)
+-- a batch of two frames, behind number 0, of which both are kept
+abbrev two_under_way : Peers
+two_under_way = with_pending 0 1 (Some (record { after = Some 0; last = 2; end = 2; most = 3072 })) kept_three
+
+-- with the acknowledgement of its last frame alone nothing goes out, and once all of it is acknowledged the rest does: here there is none, and it is over
+over_rows : ((noted_so Three 0 two_under_way (Some (Ack 1 2))).deeds ≡ [])
+    × ((noted_so Three 0 two_under_way (Some (Ack 1 2))).peers.pending 0 1 ≡ two_under_way.pending 0 1)
+    × ((noted_so Three 0 (noted_so Three 0 two_under_way (Some (Ack 1 2))).peers (Some (Ack 1 1))).deeds ≡ [])
+    × ((noted_so Three 0 (noted_so Three 0 two_under_way (Some (Ack 1 2))).peers (Some (Ack 1 1))).peers.pending 0 1 ≡ None)
+over_rows = (refl, refl, refl, refl)
+
+-- each batch may have some more bytes than the one before
+grown_rows : (grown 0 ≡ 1024) × (grown 1024 ≡ 2048) × (grown 3072 ≡ 4096) × (grown 4096 ≡ 4096)
+grown_rows = (refl, refl, refl, refl)
 
 -- a note that asks again from a number on brings one frame, and with its acknowledgement those behind it go out, up to the newest
 again_rows : ((noted_so Three 0 kept_three (Some (Again 1 1))).deeds ≡ Resent 0 1 one.bytes ∷ [])
-    × ((noted_so Three 0 kept_three (Some (Again 1 1))).peers.pending 0 1 ≡ Some (record { last = 1; end = 2 }))
+    × ((noted_so Three 0 kept_three (Some (Again 1 1))).peers.pending 0 1 ≡ Some (record { after = Some 0; last = 1; end = 2; most = 1024 }))
     × ((noted_so Three 0 under_way (Some (Again 1 0))).deeds ≡ Resent 0 1 zero.bytes ∷ [])
-    × ((noted_so Three 0 under_way (Some (Again 1 0))).peers.pending 0 1 ≡ Some (record { last = 0; end = 2 }))
+    × ((noted_so Three 0 under_way (Some (Again 1 0))).peers.pending 0 1 ≡ Some (record { after = None; last = 0; end = 2; most = 1024 }))
     × ((noted_so Three 0 kept_three (Some (Again 1 3))).deeds ≡ [])
 again_rows = (refl, refl, refl, refl, refl)
 
 -- where batches are under way that will come to that number none goes out beside them, but they go on up to the newest
 again_later_rows : ((noted_so Three 0 under_way (Some (Again 1 1))).deeds ≡ [])
-    × ((noted_so Three 0 under_way (Some (Again 1 1))).peers.pending 0 1 ≡ Some (record { last = 0; end = 2 }))
+    × ((noted_so Three 0 under_way (Some (Again 1 1))).peers.pending 0 1 ≡ Some (record { after = None; last = 0; end = 2; most = 1024 }))
 again_later_rows = (refl, refl)
 
 -- of frames that came too early the least number is asked for in version 3, and in the others all are

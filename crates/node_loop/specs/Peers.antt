@@ -19,8 +19,8 @@ Keeping = ℕ → ℕ → List Kept
 abbrev pub Marks : Type 0
 Marks = ℕ → ℕ → Option Early
 
--- the peers of a replica that are sent what was kept for them a batch at a time: the number of the newest batch's last frame, and that of
--- the last frame which is to go out so
+-- the peers of a replica that are sent what was kept for them a batch at a time: which frames the newest batch has, the number of the last
+-- frame that is to go out so, and the most bytes of the next batch
 abbrev pub Pendings : Type 0
 Pendings = ℕ → ℕ → Option Pending
 

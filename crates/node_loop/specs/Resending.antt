@@ -1,5 +1,5 @@
 -- What comes of an item for the peers of the replicas that are here: acknowledgements, and frames that are sent again.
-use Rattle.std.specs.Prelude.{ℕ, zero, suc, ◌+◌, ◌==◌, ◌&&◌, Bool, true, false, nat_lt, List, [], ◌∷◌, map, filter, sum_by, Option, Some, None, Result, Ok, Err, if◌then◌else◌}
+use Rattle.std.specs.Prelude.{ℕ, zero, suc, ◌+◌, ◌&&◌, Bool, true, false, nat_lt, min, List, [], ◌∷◌, map, filter, sum_by, Option, Some, None, Result, Ok, Err, if◌then◌else◌}
 use Rattle.std.specs.List.{flat_map}
 use Rattle.ritas_base.specs.declared.event.Event.{Event}
 use Rattle.ritas_base.specs.declared.event.Event.TheVariants as events
@@ -85,33 +85,47 @@ resends i j part p = record { deeds = map (λ k. Resent i j k.frame) (part_of pa
 abbrev pub newest_in : List Kept → ℕ
 newest_in kept = last_seq 0 kept
 
--- a batch that wasn't asked for has at most so many bytes, or one frame
+-- a batch has at most so many bytes, or one frame
 abbrev pub most_batch_bytes : ℕ
-most_batch_bytes = 16384
+most_batch_bytes = 4096
 
--- how far it went with this batch, of those up to a last one; nowhere where it has no frame
-abbrev pub reached : ℕ → List Kept → Option Pending
-reached end [] = None
-reached end (k ∷ ks) = Some (record { last = last_seq k.seq ks; end = end })
+-- each may have so many bytes more than the one before, and one to a peer that has a connection begins with so many
+abbrev pub batch_step : ℕ
+batch_step = 1024
 
--- a batch is sent again, of the frames behind a number, if there is one, up to a last one; with the acknowledgement of its own last the next
--- one follows
+-- the most bytes of the batch that follows one
+abbrev pub grown : ℕ → ℕ
+grown most = min (most + batch_step) most_batch_bytes
+
+-- how far it went with this batch, of the frames behind a number, if there is one, up to a last one, and the most bytes of the next; nowhere where it
+-- has no frame
+abbrev pub reached : Option ℕ → ℕ → ℕ → List Kept → Option Pending
+reached after end most [] = None
+reached after end most (k ∷ ks) = Some (record { after = after; last = last_seq k.seq ks; end = end; most = most })
+
+-- a batch is sent again, of the frames behind a number, if there is one, up to a last one; once all of it is acknowledged the next one follows
 abbrev pub sends_batch : ℕ → ℕ → Option ℕ → ℕ → ℕ → Peers → Brought
 sends_batch i j after end most p =
-    resends i j (parts_are.Batch after end most) (with_pending i j (reached end (batch most (between after end (p.keeping i j)))) p)
+    resends i j (parts_are.Batch after end most) (with_pending i j (reached after end (grown most) (batch most (between after end (p.keeping i j)))) p)
 
 -- ---- a note, and a connection
 
--- it was the last of a batch, and the next one follows
-abbrev pub goes_on : ℕ → ℕ → ℕ → Option Pending → Peers → Brought
-goes_on i j seq None p = nothing_more p
-goes_on i j seq (Some pending) p = if pending.last == seq then sends_batch i j (Some seq) pending.end most_batch_bytes p else nothing_more p
+abbrev pub has_none : List Kept → Bool
+has_none [] = true
+has_none (k ∷ ks) = false
+
+-- where all of the newest batch is acknowledged, the next one follows
+abbrev pub goes_on : ℕ → ℕ → Option Pending → Peers → Brought
+goes_on i j None p = nothing_more p
+goes_on i j (Some pending) p = if has_none (between pending.after pending.last (p.keeping i j))
+    then sends_batch i j (Some pending.last) pending.end pending.most p
+    else nothing_more p
 
 -- replica i is told that j took the frame of a number
 abbrev pub acked_so : FrameVersion → ℕ → ℕ → ℕ → Peers → Brought
 acked_so One i j seq p = nothing_more (acknowledged i j seq p)
 acked_so Two i j seq p = nothing_more (acknowledged i j seq p)
-acked_so Three i j seq p = goes_on i j seq (p.pending i j) (acknowledged i j seq p)
+acked_so Three i j seq p = goes_on i j (p.pending i j) (acknowledged i j seq p)
 
 -- the number before this one, if there is one
 abbrev pub before : ℕ → Option ℕ
@@ -126,7 +140,7 @@ begins_at i j seq p = sends_batch i j (before seq) (newest_in (p.keeping i j)) 0
 abbrev pub begins_unless : ℕ → ℕ → ℕ → Option Pending → Peers → Brought
 begins_unless i j seq None p = begins_at i j seq p
 begins_unless i j seq (Some pending) p = if nat_lt pending.last seq
-    then nothing_more (with_pending i j (Some (record { last = pending.last; end = newest_in (p.keeping i j) })) p)
+    then nothing_more (with_pending i j (Some (record pending { end = newest_in (p.keeping i j) })) p)
     else begins_at i j seq p
 
 -- replica i is asked by j to send again, from a number on
@@ -144,7 +158,7 @@ noted_so version i p (Some (notes.Again from seq)) = asked_so version i from seq
 abbrev pub connected : FrameVersion → ℕ → ℕ → Peers → Brought
 connected One i j p = resends i j parts_are.All p
 connected Two i j p = resends i j parts_are.All p
-connected Three i j p = sends_batch i j None (newest_in (p.keeping i j)) most_batch_bytes p
+connected Three i j p = sends_batch i j None (newest_in (p.keeping i j)) batch_step p
 
 -- ---- an item
 

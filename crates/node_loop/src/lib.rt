@@ -13,13 +13,14 @@
 //! - In versions 1 and 2 at most 8,388,608 bytes are kept for one peer. A frame that doesn't fit goes out and
 //!   isn't kept; of the frames that a journal's events make, the newest are kept. All that is kept for a peer
 //!   goes out again at once.
-//! - In version 3 all is kept, and goes out again in batches: the oldest frames, as many as have 16,384
-//!   bytes together, and at least one. A new connection begins with a batch. With the acknowledgement of its
-//!   last frame the next batch follows, up to the frame that was the newest as the connection came: a peer
-//!   that was away for long is sent its frames as fast as it takes them. A peer that asks says from which
-//!   number on: it is sent one frame from there on, and with its acknowledgement the batches behind it
-//!   follow, up to the newest frame. Where batches are under way that will come to that number, nothing goes
-//!   out beside them, and they go on up to the newest frame.
+//! - In version 3 all is kept, and goes out again in batches: the oldest frames, as many as have so many
+//!   bytes together, and at least one. A new connection begins with a batch of 1,024 bytes. Once none of a
+//!   batch's frames is kept any more the next one follows, up to the frame that was the newest as the
+//!   connection came. Each may have 1,024 bytes more than the one before, up to 4,096: so a peer that is
+//!   sent too much, and acknowledges it late, gets less. A peer that asks says from which number on: it is
+//!   sent one frame from there on, and with its acknowledgement the batches behind it follow, of 1,024 bytes
+//!   at first, up to the newest frame. Where batches are under way that will come to that number, nothing
+//!   goes out beside them, and they go on up to the newest frame.
 //!   Serving ends where more than 536,870,912 bytes are kept for all peers of a replica.
 #![tactic(auto)]
 

@@ -11,7 +11,7 @@ ghost use Rattle.node_loop.specs.Meanings.{meaning_of};
 ghost use Rattle.node_loop.specs.declared.peers.Pair.{Pair as APair};
 ghost use Rattle.node_loop.specs.Peers.{Peers, with_list, keeps, is_due_of, early_with, asked_from};
 ghost use Rattle.node_loop.specs.PeersStanding.{AreKept, IsKeeper};
-ghost use Rattle.node_loop.specs.Resending.{replica_progress, mark_at, peers_due, nothing_more, reached, newest_in, before, sends_batch, begins_at, begins_unless, goes_on, acked_so, asked_so, connected};
+ghost use Rattle.node_loop.specs.Resending.{replica_progress, mark_at, peers_due, nothing_more, reached, newest_in, before, grown, has_none, sends_batch, begins_at, begins_unless, goes_on, acked_so, asked_so, connected};
 ghost use Rattle.node_loop.specs.Standing.{IsMore};
 
 use crate::output::{More, Part};
@@ -22,8 +22,11 @@ use replica::Replica;
 use ritas_base::{Coin, FrameVersion, Mem};
 use std::alloc::Global;
 
-// A batch that wasn't asked for has at most so many bytes, or one frame.
-const MOST_BATCH_BYTES: u64 = 16_384;
+// A batch has at most so many bytes, or one frame.
+const MOST_BATCH_BYTES: u64 = 4_096;
+
+// Each batch may have so many bytes more than the one before, and one to a peer that has a connection begins with so many.
+const BATCH_STEP: u64 = 1_024;
 
 /// How far a replica had come, and how many bytes it held for a peer.
 #[derive(Clone, Copy)]
@@ -55,10 +58,14 @@ pub(crate) struct Pair {
 /// How far what is kept for a peer went out again, a batch at a time.
 #[derive(Clone, Copy)]
 pub(crate) struct Pending {
-    /// The number of the last frame of the newest batch. With its acknowledgement the next batch goes out.
+    /// The newest batch has the frames behind this number, if there is one.
+    pub after: Option<u64>,
+    /// The number of its last frame. Once none of its frames is kept any more, the next batch goes out.
     pub last: u64,
     /// The number of the last frame that is to go out so.
     pub end: u64,
+    /// The most bytes of the next batch.
+    pub most: u64,
 }
 
 /// What is kept for the peers of one replica in a session of a version, the marks that they have, and how far it went out again to each.
@@ -138,6 +145,13 @@ fn before(seq: u64) -> Option<u64>
     seq.checked_sub(1)
 }
 
+// The most bytes of the batch that follows one.
+fn grown(most: u64) -> u64
+    ensures { result ≡ grown most }
+{
+    most.min(MOST_BATCH_BYTES - BATCH_STEP) + BATCH_STEP
+}
+
 /// The version of a replica's session.
 pub(crate) fn version_of<S: Service, E: Broadcast, C: Coin + Drop>(
     replica: &Replica<S, E, C>,
@@ -202,15 +216,30 @@ impl Keeper {
         }
     }
 
-    // The number up to which a batch goes out, if it has a frame.
+    // How far what is kept for a peer goes out with a batch, if that has a frame.
     fn reached(&self, peer: u8, after: Option<u64>, end: u64, most: u64) -> Option<Pending>
         requires { peer < length self.now.resume.lists }
-        ensures { result ≡ reached end (batch most (between after end (kept_for self.now.resume.lists peer))) }
+        ensures { result ≡ reached after end (grown most) (batch most (between after end (kept_for self.now.resume.lists peer))) }
     {
         match self.resume.last_of_batch(peer, after, end, most) {
-            Some(last) => Some(Pending { last, end }),
+            Some(last) => Some(Pending {
+                after,
+                last,
+                end,
+                most: grown(most),
+            }),
             None => None,
         }
+    }
+
+    // Whether the peer took all of the newest batch.
+    fn is_taken(&self, peer: u8, pending: Pending) -> bool
+        requires { peer < length self.now.resume.lists }
+        ensures { result ≡ has_none (between pending.after pending.last (kept_for self.now.resume.lists peer)) }
+    {
+        self.resume
+            .last_of_batch(peer, pending.after, pending.last, 0)
+            .is_none()
     }
 
     // A batch of what is kept for a peer is to go out again.
@@ -232,17 +261,17 @@ impl Keeper {
         }
     }
 
-    // Where the frame of this number was the last of a batch, the next one is to go out.
-    fn go_on(&mut self, peer: u8, seq: u64) -> More
+    // Where the peer took all of the newest batch, the next one is to go out.
+    fn go_on(&mut self, peer: u8) -> More
         requires { peer < length self.old.resume.lists }
         ensures goes { (w : Setting) (i : ℕ) (p : Peers) → IsKeeper w.mode.version w.numbers.n i self.old p
-            → let brings = goes_on i peer seq (p.pending i peer) p in
+            → let brings = goes_on i peer (p.pending i peer) p in
             IsKeeper w.mode.version w.numbers.n i self.new brings.peers × IsMore w i result brings }
     {
         match self.pending_of(peer) {
             Some(pending) => {
-                if pending.last == seq {
-                    self.send_batch(peer, Some(seq), pending.end, MOST_BATCH_BYTES)
+                if self.is_taken(peer, pending) {
+                    self.send_batch(peer, Some(pending.last), pending.end, pending.most)
                 } else {
                     More::Nothing
                 }
@@ -263,7 +292,7 @@ impl Keeper {
         self.resume.acked(peer, seq);
         match self.version {
             FrameVersion::One | FrameVersion::Two => More::Nothing,
-            FrameVersion::Three => self.go_on(peer, seq),
+            FrameVersion::Three => self.go_on(peer),
         }
     }
 
@@ -289,8 +318,8 @@ impl Keeper {
         match self.pending_of(peer) {
             Some(pending) => {
                 if pending.last < seq {
-                    let (last, end) = (pending.last, self.newest(peer));
-                    self.note_pending(peer, Some(Pending { last, end }));
+                    let end = self.newest(peer);
+                    self.note_pending(peer, Some(Pending { end, ..pending }));
                     More::Nothing
                 } else {
                     self.begin_at(peer, seq)
@@ -342,7 +371,7 @@ impl Keeper {
             },
             FrameVersion::Three => {
                 let end = self.newest(peer);
-                self.send_batch(peer, None, end, MOST_BATCH_BYTES)
+                self.send_batch(peer, None, end, BATCH_STEP)
             }
         }
     }

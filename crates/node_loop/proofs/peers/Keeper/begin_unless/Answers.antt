@@ -1,4 +1,4 @@
-use Rattle.std.proofs.Common.{◌≡◌, ◌<◌, ℕ, Bool, Option, Some, None, nat_lt, slice_set, sym, ap, ◌∙◌, arith}
+use Rattle.std.proofs.Common.{◌≡◌, ◌<◌, ℕ, Option, Some, None, nat_lt, slice_set, sym, ap, ◌∙◌, arith}
 use Rattle.std.proofs.lemmas.Bool.{lt-ltb, le-ltb, cond-true, cond-false}
 use Rattle.node_loop.specs.declared.peers.Pending.{Pending}
 use Rattle.node_loop.specs.Peers.{with_pending}
@@ -15,7 +15,7 @@ returns-then-pending-seq c = record {
       let q : Pending = c.in-Some.pending in
       let below : peer < w.numbers.n = omega (arith, c.requires, is.kept.many) in
       let pending : p.pending i peer ≡ Some q = sym (is.pending.each peer below) ∙ (sym c.pending_of.ensures.pending ∙ c.in-Some.is) in
-      let up_to : ℕ → Option Pending = λ e. Some (record { last = q.last; end = e }) in
+      let up_to : ℕ → Option Pending = λ e. Some (record q { end = e }) in
       let now : Option Pending = up_to (newest_in (p.keeping i peer)) in
       let end = c.newest-end.ensures ∙ ap newest_in (is.kept.each peer below) in
       let stands = pending_there w.mode.version w.numbers.n i peer now c.args.self.now c.note_pending.new.self p is c.note_pending.ensures.rest
@@ -34,7 +34,7 @@ returns-else-pending-seq c = record {
       let q : Pending = c.in-Some.pending in
       let below : peer < w.numbers.n = omega (arith, c.requires, is.kept.many) in
       let pending : p.pending i peer ≡ Some q = sym (is.pending.each peer below) ∙ (sym c.pending_of.ensures.pending ∙ c.in-Some.is) in
-      let now : Option Pending = Some (record { last = q.last; end = newest_in (p.keeping i peer) }) in
+      let now : Option Pending = Some (record q { end = newest_in (p.keeping i peer) }) in
       let said = c.begin_at.ensures.begins w i p is in
       both_of w i _ _ _ (answers_as w i _ _ (begins_at i peer seq p) (begins_unless i peer seq (p.pending i peer) p)
       (sym (ap (λ (o : Option Pending). begins_unless i peer seq o p) pending

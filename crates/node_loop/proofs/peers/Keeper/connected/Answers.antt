@@ -2,7 +2,7 @@ use Rattle.std.proofs.Common.{◌≡◌, ◌<◌, ◌≤◌, ℕ, None, nat_lt, 
 use Rattle.std.proofs.lemmas.Bool.{lt-ltb, le-ltb, cond-true, cond-false}
 use Rattle.ritas_base.specs.declared.mode.FrameVersion.TheVariants.{Three}
 use Rattle.node_loop.specs.declared.output.Part.TheVariants as parts_are
-use Rattle.node_loop.specs.Resending.{nothing_more, connected, newest_in, most_batch_bytes, sends_batch}
+use Rattle.node_loop.specs.Resending.{nothing_more, connected, newest_in, batch_step, sends_batch}
 use Rattle.node_loop.proofs.Sending.{both_of, answers_as, answers_nothing, answers_part, connected_earlier, connected_three, not_three}
 use Rattle.node_loop.proofs.peers.Keeper.connected.Goals as goal
 
@@ -23,7 +23,7 @@ returns-in-Three c = record {
       let end = c.newest-end.ensures ∙ ap newest_in (is.kept.each c.args.peer below) in
       let said = c.send_batch.ensures.batch w i p is in
       both_of w i _ _ _ (answers_as w i _ _ _ _
-      (ap (λ (e : ℕ). sends_batch i c.args.peer None e most_batch_bytes p) end
+      (ap (λ (e : ℕ). sends_batch i c.args.peer None e batch_step p) end
       ∙ (sym (connected_three w.mode.version i c.args.peer p three)
       ∙ sym (cond-true (nat_lt c.args.peer w.numbers.n) (connected w.mode.version i c.args.peer p) (nothing_more p) (lt-ltb c.args.peer w.numbers.n below))))
       (record { stands = said.0; more = said.1 }));
