@@ -1,5 +1,5 @@
 -- What the calls on the state promise, for all calls that the state stands for.
-use Rattle.std.specs.Prelude.{◌≡◌, ℕ, ◌<◌, Bool, true, false, not, ◌&&◌, ◌||◌, List, [], ◌∷◌, ◌++◌, length, Option, Some, None, is_some, is_none, nat_lt, Result, Ok, Err, OnOk, OnErr, IfOk, is_err, replicate, refl}
+use Rattle.std.specs.Prelude.{◌≡◌, ℕ, ◌<◌, Bool, true, false, not, ◌&&◌, ◌||◌, List, [], ◌∷◌, ◌++◌, length, Option, Some, None, is_some, is_none, nat_lt, Result, Ok, Err, OnOk, OnErr, is_err, replicate, refl}
 use Rattle.std.proofs.Common.{sym, ◌∙◌, ap, subst, inl, get_or}
 use Rattle.std.proofs.lemmas.List.{append-nil, length-replicate, get_or-replicate}
 use Rattle.std.proofs.lemmas.List.FromFn.{fill_by_all}
@@ -114,7 +114,7 @@ is_none_is : {A : Type 0} (o : Option A) → is_none o ≡ not (is_some o)
 is_none_is None = refl
 is_none_is (Some x) = refl
 
-awaited_is : (b : Eb) (at : Place) (tags : Tags) (h : List Call) (k : ℕ) → KeepsMatrix b at tags h → k < at.numbers.n → is_awaited b.hashes.items k ≡ not (is_some (first h k Hashes))
+awaited_is : (b : Eb) (at : Place) (tags : Tags) (h : List Call) (k : ℕ) → KeepsMatrix b at tags h → k < at.numbers.n → is_awaited b.hashes k ≡ not (is_some (first h k Hashes))
 awaited_is b at tags h k keeps lt =
     let n = at.numbers.n in
     let hs = hashes_in at h in
@@ -130,21 +130,21 @@ opposite false true p e q = ap not q
 opposite false false p e q = absurd (cc)
 
 repeats_hashes : (b : Eb) (at : Place) (tags : Tags) (h : List Call) (x : Item) (awaits : Bool) → x.kind ≡ Hashes → KeepsMatrix b at tags h → MayTake echo at tags h x
-    → is_awaited b.hashes.items x.from ≡ awaits → repeats_one at tags h x ≡ not awaits
+    → is_awaited b.hashes x.from ≡ awaits → repeats_one at tags h x ≡ not awaits
 repeats_hashes b at tags h x awaits kind keeps may is =
     repeats_kind at tags h x Hashes kind refl
-    ∙ opposite (is_awaited b.hashes.items x.from) (is_some (first h x.from Hashes)) (awaited_is b at tags h x.from keeps may.sender) awaits is
+    ∙ opposite (is_awaited b.hashes x.from) (is_some (first h x.from Hashes)) (awaited_is b at tags h x.from keeps may.sender) awaits is
 
 new_hashes : (b : Eb) (at : Place) (tags : Tags) (h : List Call) (x : Item) → KeepsMatrix b at tags h → MayTake echo at tags h x
-    → is_awaited b.hashes.items x.from ≡ true → first h x.from Hashes ≡ None
+    → is_awaited b.hashes x.from ≡ true → first h x.from Hashes ≡ None
 new_hashes b at tags h x keeps may is =
-    not_there (first h x.from Hashes) (opposite (is_awaited b.hashes.items x.from) (is_some (first h x.from Hashes)) (awaited_is b at tags h x.from keeps may.sender) true is)
+    not_there (first h x.from Hashes) (opposite (is_awaited b.hashes x.from) (is_some (first h x.from Hashes)) (awaited_is b at tags h x.from keeps may.sender) true is)
 
 columns_are : (b c : Eb) (at : Place) (tags : Tags) (h : List Call) (x : Item) → KeepsMatrix b at tags h → KeepsMatrix c at tags (Take x ∷ h)
-    → columns_of b.params b.slot c.hashes.items ≡ columns_of at.numbers at.slot (hashes_in at (Take x ∷ h))
+    → columns_of b.params b.slot c.hashes ≡ columns_of at.numbers at.slot (hashes_in at (Take x ∷ h))
 columns_are b c at tags h x keeps kept =
-    ap (λ (p : Numbers). columns_of p b.slot c.hashes.items) keeps.params
-    ∙ (ap (λ (s : Slot). columns_of at.numbers s c.hashes.items) keeps.slot ∙ ap (columns_of at.numbers at.slot) kept.hashes)
+    ap (λ (p : Numbers). columns_of p b.slot c.hashes) keeps.params
+    ∙ (ap (λ (s : Slot). columns_of at.numbers s c.hashes) keeps.slot ∙ ap (columns_of at.numbers at.slot) kept.hashes)
 
 heard_hashes : (t : Tagging) (old new : Eb) (x : Item) (before after : List Msg) (r : Result Heard Mem) → x.kind ≡ Hashes → is_err r ≡ false
     → HearsHashes old new x before after r → TakesAs t old new x before after r
@@ -296,21 +296,17 @@ and_false : (b : Bool) → false ≡ (b && false)
 and_false true = refl
 and_false false = refl
 
-abbrev IsNew : Numbers → Slot → Eb → Type 0
-IsNew p slot b =
-    (b.params ≡ p) × (b.slot ≡ slot) × (b.sent ≡ None) × (b.hashes.items ≡ replicate p.n None) × ((k : ℕ) → has_member b.good k ≡ false) × (b.live ≡ true) × IsSession p
-
-pub new_keeps : (p : Numbers) (me : ℕ) (slot : Slot) (r : Result Eb Mem) → me < p.n → IfOk r (IsNew p slot)
-    → IfOk r (λ b. (tags : Tags) → KeepsMatrix b (record { numbers = p; me = me; slot = slot }) tags [])
-new_keeps p me slot (Ok b) below new = λ tags.
+pub new_keeps : (p : Numbers) (me : ℕ) (slot : Slot) (b : Eb) → me < p.n → (b.params ≡ p) × (b.slot ≡ slot) × (b.sent ≡ None) × (b.live ≡ true)
+    → (b.hashes ≡ replicate p.n None) × ((k : ℕ) → has_member b.good k ≡ false) → IsSession p
+    → (tags : Tags) → KeepsMatrix b (record { numbers = p; me = me; slot = slot }) tags []
+new_keeps p me slot b below same nobody session tags =
     record {
-      session = new.6;
+      session = session;
       me_below = below;
-      params = new.0;
-      slot = new.1;
-      sent_is = new.2;
-      hashes = new.3 ∙ nobody_yet p.n;
-      good = λ k. new.4 k ∙ and_false (nat_lt k p.n);
-      live = new.5;
+      params = same.0;
+      slot = same.1;
+      sent_is = same.2;
+      hashes = nobody.0 ∙ nobody_yet p.n;
+      good = λ k. nobody.1 k ∙ and_false (nat_lt k p.n);
+      live = same.3;
     }
-new_keeps p me slot (Err x) below new = tt

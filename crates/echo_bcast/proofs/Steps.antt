@@ -63,7 +63,7 @@ kept_send b at tags h x d keeps kind mine new same =
     }
 
 pub kept_hashes : (b c : Eb) (at : Place) (tags : Tags) (h : List Call) (x : Item) → KeepsMatrix b at tags h → x.kind ≡ Hashes → x.from < at.numbers.n → first h x.from Hashes ≡ None
-    → c ≡ record b { hashes = c.hashes } → c.hashes.items ≡ slice_set b.hashes.items x.from (Some x.value) → KeepsMatrix c at tags (Take x ∷ h)
+    → c ≡ record b { hashes = c.hashes } → c.hashes ≡ slice_set b.hashes x.from (Some x.value) → KeepsMatrix c at tags (Take x ∷ h)
 kept_hashes b c at tags h x keeps kind within new same set_now =
     record {
       session = keeps.session;
@@ -192,7 +192,7 @@ module _ (b : Eb) (at : Place) (tags : Tags) (h : List Call) (t : Tagging) (x : 
         slot = ap (λ (y : Eb). y.slot) same ∙ keeps.slot;
         sent_is = ap (λ (y : Eb). y.sent) same ∙ keeps.sent_is ∙ ap (sent_kept_as tags) (sym (sent_kept at x h (ap (λ (k : Kind). kind_eq k Send) kind)));
         hashes =
-            ap (λ (y : Eb). y.hashes.items) same ∙ keeps.hashes
+            ap (λ (y : Eb). y.hashes) same ∙ keeps.hashes
             ∙ sym (firsts_same at.numbers.n h Hashes (Take x) (λ k. told_not_this k Hashes x (ap (λ (q : Kind). kind_eq q Hashes) kind)));
         good = good_now new.good j;
         live = ap (λ (y : Eb). y.live) same ∙ keeps.live;

@@ -1,5 +1,6 @@
 pub mod Matrix
 pub mod Due
+pub mod Gathering
 pub mod State
 pub mod Reading
 pub mod OneDue

@@ -39,7 +39,7 @@ pub record KeepsMatrix (b : Eb) (at : Place) (tags : Tags) (h : List Call) : Typ
   pub params : b.params ≡ at.numbers
   pub slot : b.slot ≡ at.slot
   pub sent_is : b.sent ≡ sent_kept_as tags (sent at h)
-  pub hashes : b.hashes.items ≡ hashes_in at h
+  pub hashes : b.hashes ≡ hashes_in at h
   pub good : (k : ℕ) → has_member b.good k ≡ (nat_lt k at.numbers.n && is_good at tags h k)
   pub live : b.live ≡ true
 
@@ -96,12 +96,12 @@ HearsSend t old new i before after (Err e) = (old.sent ≡ None) × MatrixUnchan
 
 abbrev pub HearsHashes : Eb → Eb → Item → List Msg → List Msg → Result Heard Mem → Type 0
 HearsHashes old new i before after (Ok Took) =
-    (is_awaited old.hashes.items i.from ≡ true) × (new ≡ record old { hashes = new.hashes })
-    × (new.hashes.items ≡ slice_set old.hashes.items i.from (Some i.value))
-    × (length old.hashes.items ≡ old.params.n → after ≡ before ++ columns_of old.params old.slot new.hashes.items)
-HearsHashes old new i before after (Ok Repeat) = (is_awaited old.hashes.items i.from ≡ false) × MatrixUnchanged old new before after
+    (is_awaited old.hashes i.from ≡ true) × (new ≡ record old { hashes = new.hashes })
+    × (new.hashes ≡ slice_set old.hashes i.from (Some i.value))
+    × (length old.hashes ≡ old.params.n → after ≡ before ++ columns_of old.params old.slot new.hashes)
+HearsHashes old new i before after (Ok Repeat) = (is_awaited old.hashes i.from ≡ false) × MatrixUnchanged old new before after
 HearsHashes old new i before after (Err e) =
-    (is_awaited old.hashes.items i.from ≡ true) × (new ≡ record old { hashes = new.hashes }) × (after ≡ before)
+    (is_awaited old.hashes i.from ≡ true) × (new ≡ record old { hashes = new.hashes }) × (after ≡ before)
 
 -- a column is news where it makes some echoer good
 abbrev pub is_news : Tagging → Eb → Option Sent → List ℕ → Bool

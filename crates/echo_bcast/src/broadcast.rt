@@ -41,7 +41,7 @@ impl Broadcast for Eb {
     const FORM: u8 = 2;
 
     fn new(alloc: Global, p: &Params, _me: u8, slot: Slot) -> Result<Eb, Mem> {
-        Eb::make(alloc, p, slot)
+        Ok(Eb::make(alloc, p, slot))
     }
 
     fn start<T: Tagger>(

@@ -1,6 +1,6 @@
 //! One replica's part in an echo broadcast: what it keeps of SEND, HASHES and COLUMN, and what becomes due by each.
 
-ghost use Rattle.std.specs.Prelude.{◌≡◌, ◌<◌, ◌++◌, IfOk, OnErr, OnOk, None, Some, List, ℕ, Option, replicate, is_some, true, false};
+ghost use Rattle.std.specs.Prelude.{◌≡◌, ◌<◌, ◌++◌, OnErr, OnOk, None, Some, List, ℕ, Option, replicate, is_some, true, false};
 ghost use Rattle.std.specs.Option.{option_copied};
 ghost use Rattle.ritas_base.specs.declared.item.Kind.TheVariants.{Send};
 ghost use Rattle.ritas_base.specs.Messages.{to_all};
@@ -10,6 +10,7 @@ ghost use Rattle.echo_bcast.specs.State.{matrix_delivered, HearsMatrix, HearsSen
 
 use crate::columns::columns_of;
 use crate::entries::{hashes_of, is_column, judged};
+use crate::gathered::Gathered;
 use layer_api::Heard;
 use ritas_base::{Bytes, Item, Kind, Mem, Msg, Params, SenderSet, Slot, Tagger, To};
 use std::alloc::Global;
@@ -28,31 +29,29 @@ pub struct Eb {
     slot: Slot,
     sent: Option<Sent>,
     // The first HASHES of each replica. The origin alone gets any.
-    hashes: Vec<Option<Bytes>>,
+    hashes: Gathered,
     // The echoers of which a column had a valid entry.
     good: SenderSet,
     pub(crate) live: bool,
 }
 
 impl Eb {
-    /// Before any call. The one error is want of memory.
-    pub(crate) fn make(alloc: Global, params: &Params, slot: Slot) -> Result<Eb, Mem>
-        ensures { IfOk result (λ b. (b.params ≡ params.now) × (b.slot ≡ slot) × (b.sent ≡ None)
-            × (b.hashes.items ≡ replicate params.now.n None) × ((k : ℕ) → has_member b.good k ≡ false) × (b.live ≡ true)
-            × IsSession params.now) }
+    /// Before any call.
+    pub(crate) fn make(alloc: Global, params: &Params, slot: Slot) -> Eb
+        ensures same { (result.params ≡ params.now) × (result.slot ≡ slot) × (result.sent ≡ None)
+            × (result.live ≡ true) }
+        ensures nobody { (result.hashes ≡ replicate params.now.n None)
+            × ((k : ℕ) → has_member result.good k ≡ false) }
+        ensures session { IsSession params.now }
     {
-        let mut hashes = Vec::new(alloc);
-        for _ in 0..params.n() {
-            hashes.push(None)?;
-        }
-        Ok(Eb {
+        Eb {
             params: *params,
             slot,
             sent: None,
-            hashes,
+            hashes: Gathered::new(alloc, params.n()),
             good: SenderSet::empty(),
             live: true,
-        })
+        }
     }
 
     /// Says SEND.
@@ -100,12 +99,11 @@ impl Eb {
     fn gather(&mut self, alloc: Global, item: &Item, out: &mut Vec<Msg>) -> Result<Heard, Mem>
         ensures { HearsHashes self.old self.new item.now out.old.items out.new.items result }
     {
-        let from = usize::from(item.from);
-        if from >= self.hashes.len() || self.hashes[from].is_some() {
+        if !self.hashes.awaits(item.from) {
             return Ok(Heard::Repeat);
         }
-        self.hashes[from] = Some(item.value.copy(alloc)?);
-        let mut columns = columns_of(alloc, &self.params, &self.slot, &self.hashes)?;
+        self.hashes.add(alloc, item.from, &item.value)?;
+        let mut columns = columns_of(alloc, &self.params, &self.slot, self.hashes.places())?;
         out.append(&mut columns)?;
         Ok(Heard::Took)
     }

@@ -17,6 +17,7 @@ mod broadcast;
 mod columns;
 mod eb;
 mod entries;
+mod gathered;
 mod laws;
 
 pub use eb::Eb;

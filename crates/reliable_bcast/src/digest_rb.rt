@@ -136,9 +136,12 @@ impl DigestRb {
             return Ok(());
         }
         self.answer(alloc, digest, value, out)?;
+        let value = value.copy(alloc)?;
+        // Mostly there is one value, and a session keeps all of its broadcasts.
+        self.values.reserve_exact(1)?;
         self.values.push(Known {
             digest: *digest,
-            value: value.copy(alloc)?,
+            value,
         })?;
         Ok(())
     }

@@ -77,6 +77,8 @@ impl Votes {
             return Ok(());
         }
         let value = value.copy(alloc)?;
+        // Mostly there is one value, and a session keeps all of its broadcasts.
+        self.ballots.reserve_exact(1)?;
         self.ballots.push(Ballot {
             value,
             voters: SenderSet::empty().with(k),

@@ -1,5 +1,5 @@
 -- Whether an item can be taken yet goes by its kind alone.
-use Rattle.std.specs.Prelude.{◌≡◌, Bool, not, ◌||◌, is_some, List}
+use Rattle.std.specs.Prelude.{not, ◌||◌, is_some}
 use Rattle.std.proofs.Common.{ap}
 use Rattle.ritas_base.specs.declared.item.Kind.{Kind}
 use Rattle.ritas_base.specs.declared.item.Kind.TheVariants.{Column}

@@ -1,4 +1,4 @@
-use Rattle.std.proofs.Common.{◌≡◌, ◌⊎◌, inl, inr, ℕ, zero, suc, ◌<◌, ◌≤◌, ◌+◌, subst, List, [], ◌∷◌, ◌++◌, length, Option, Some, None, Bool, true, false, map, get_or, refl, sym, ap, ◌∙◌, arith}
+use Rattle.std.proofs.Common.{◌≡◌, ◌⊎◌, inl, inr, ℕ, zero, suc, ◌<◌, ◌≤◌, subst, List, [], ◌∷◌, ◌++◌, length, Option, Some, None, Bool, true, map, get_or, refl, sym, ap, ◌∙◌, arith}
 use Rattle.std.specs.Prelude.{if◌then◌else◌, is_some, count_by}
 use Rattle.std.specs.List.{slice_get, range_with_len}
 use Rattle.std.proofs.lemmas.Bool.{eqb-true}
@@ -23,7 +23,7 @@ use Rattle.echo_bcast.specs.Due.{IsMatrixDue, OfSend, OfHashes, OfColumn, IsColu
 use Rattle.echo_bcast.specs.Laws.Entries.{is_there, count_from, count_behind, placed_row, row_written, column_alone}
 use Rattle.echo_bcast.specs.Laws.Good.{columns_long}
 use Rattle.echo_bcast.specs.Matrix.{echo, hashes_bytes, hashes_in, rows_for, senders_of}
-use Rattle.echo_bcast.specs.OneDue.{HasAll, AreNested}
+use Rattle.echo_bcast.specs.OneDue.{HasAll}
 use Rattle.echo_bcast.proofs.laws.one_due.Goals as goal
 
 -- ---- one value

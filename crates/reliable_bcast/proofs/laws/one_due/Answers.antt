@@ -1,5 +1,4 @@
-use Rattle.std.proofs.Common.{◌≡◌, List, ℕ, Option, Some, Bool, true, false, sym, ap, ◌∙◌}
-use Rattle.ritas_base.specs.declared.item.Kind.{Kind}
+use Rattle.std.proofs.Common.{◌≡◌, List, Some, true, false, sym, ap, ◌∙◌}
 use Rattle.ritas_base.specs.declared.item.Kind.TheVariants.{Column}
 use Rattle.ritas_base.specs.declared.item.Msg.{Msg}
 use Rattle.ritas_base.specs.Messages.{Place}

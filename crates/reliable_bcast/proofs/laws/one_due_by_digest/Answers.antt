@@ -1,10 +1,8 @@
-use Rattle.std.proofs.Common.{◌≡◌, List, ℕ, Option, Some, None, Bool, true, false, sym, ap, subst, ◌∙◌}
-use Rattle.std.specs.Prelude.{◌==◌}
+use Rattle.std.proofs.Common.{◌≡◌, List, ℕ, Option, Some, None, true, false, sym, ap, ◌∙◌}
 use Rattle.std.proofs.lemmas.Bool.{eqb-true}
 use Rattle.ritas_base.specs.declared.item.Kind.{Kind}
 use Rattle.ritas_base.specs.declared.item.Kind.TheVariants.{Column, Value}
 use Rattle.ritas_base.specs.declared.item.Msg.{Msg}
-use Rattle.ritas_base.specs.declared.item.To.{To}
 use Rattle.ritas_base.specs.Messages.{Place, reaches}
 use Rattle.ritas_base.specs.History.{Call}
 use Rattle.ritas_base.specs.Tags.{Tags}

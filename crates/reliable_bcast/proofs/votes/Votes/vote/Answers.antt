@@ -53,7 +53,10 @@ push_one c =
 
 pushed : (c : goal.In_ok-push) → c.push.new.self.items ≡ c.self.inside.ballots.items ++ record { value = c.args.value.now; voters = c.with.result } ∷ []
 pushed c =
-    c.in_ok-push.ensures.items ∙ ap (λ (m : List ℕ). let b : Ballot = record { value = m; voters = c.with.result } in c.self.inside.ballots.items ++ b ∷ []) c.in_ok-value.ensures
+    let ballot : Ballot = record { value = c.in_ok-value.value; voters = c.with.result } in
+    c.in_ok-push.ensures.items
+    ∙ (ap (λ (l : List Ballot). l ++ ballot ∷ []) c.reserve_exact.ensures.items
+    ∙ ap (λ (m : List ℕ). let b : Ballot = record { value = m; voters = c.with.result } in c.self.inside.ballots.items ++ b ∷ []) c.in_ok-value.ensures)
 
 pub invariant_of-self-2 : goal.invariant_of-self-2
 invariant_of-self-2 c = (c.self.invariant.0, subst (λ (l : List Ballot). IsBallotTally c.self.inside.n l) (sym (pushed c)) (push_one c).tally)
