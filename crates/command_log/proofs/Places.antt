@@ -174,20 +174,3 @@ key_test a b c q small other =
     let parts = and_parts (a == c) (b == q) both in
     let same : row_key c q ≡ row_key a b = ap₂ row_key (sym (eqb-true a c parts.0)) (sym (eqb-true b q parts.1)) in
     ap (λ (k : ℕ). is_eq (nat_cmp (row_key a b) k)) same ∙ ap is_eq (tied_itself nat_cmp_total (row_key a b)))
-
--- the index after a row is entered
-pub index_more : (index index' : BTreeMap ℕ ℕ) (r : Row) (rs : List Row) → r.client < 4294967296 → r.request < 4294967296 → length rs + 1 < 4294967296 → has_row rs r.client r.request ≡ false
-    → IsIndexed index rs → ((k : ℕ) → get nat_cmp index' k ≡ (if is_at (nat_cmp (row_key r.client r.request)) k then Some (length rs) else get nat_cmp index k))
-    → IsIndexed index' (r ∷ rs)
-index_more index index' r rs client_fits small room none before updates = record {
-  finds = λ client request client_small request_small.
-      updates (row_key client request)
-      ∙ (ap (λ (b : Bool). if b then Some (length rs) else get nat_cmp index (row_key client request)) (key_test r.client r.request client request small request_small)
-      ∙ ap (λ (o : Option ℕ). if r.client == client && r.request == request then Some (length rs) else o) (before.finds client request client_small request_small));
-  once = (none, before.once);
-  many = omega (arith, room);
-  numbers = λ q here. elim here [
-    | inl same ↦ subst (λ (x : Row). (x.client < 4294967296) × (x.request < 4294967296)) same (client_fits, small)
-    | inr there ↦ before.numbers q there
-  ];
-}

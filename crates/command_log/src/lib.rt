@@ -37,8 +37,10 @@ mod laws;
 mod log;
 mod origins;
 mod row;
+mod rows;
 mod waiting;
 
 pub use laws::{command_rows, log_follows};
 pub use log::Log;
 pub use row::LogRow;
+pub use rows::Rows;

@@ -11,10 +11,10 @@ ghost use Rattle.command_log.specs.Standing.{StandsFor, HasEntered, WaitsWith, I
 
 use crate::origins::OriginSet;
 use crate::row::LogRow;
+use crate::rows::{Rows, key_of};
 use crate::waiting::Waiting;
 use ritas_base::{Bytes, Id, Mem};
 use std::alloc::Global;
-use std::collections::BTreeMap;
 use std::marker::Model;
 
 // The number that four bytes are.
@@ -30,13 +30,6 @@ fn number(command: &[u8], at: usize) -> u32
     ])
 }
 
-// The key of a client and a request.
-fn key_of(client: u32, request: u32) -> u64
-    ensures { result ≡ row_key client request }
-{
-    u64::from(client) * 4_294_967_296 + u64::from(request)
-}
-
 // The payload of a command.
 fn payload_of(command: &[u8]) -> &[u8]
     requires { least_request ≤ length command.now }
@@ -50,17 +43,12 @@ fn payload_of(command: &[u8]) -> &[u8]
 pub struct Log {
     // A command has its row from its (f + 1)st origin on.
     f: u8,
-    // The oldest first.
-    rows: Vec<LogRow>,
-    // The position of each row, by the key of its client and request.
-    index: BTreeMap<u64, u32>,
+    rows: Rows,
     // The origins of the commands whose client and request have no row.
     waiting: Waiting,
 }
 
 impl Model for Log {
-    ghost use Rattle.std.specs.Prelude.{List, reverse};
-    ghost use Rattle.command_log.specs.Index.{IsIndexed};
     ghost use Rattle.command_log.specs.Standing.{Ledger};
     ghost use Rattle.command_log.specs.contracts.waiting.Waiting as e;
     ghost use Rattle.std.specs.Coded.{codes};
@@ -69,9 +57,7 @@ impl Model for Log {
 
     ghost coded = { Prim.hlevel (codes, e.the_row.coded) };
 
-    ghost view = { λ l. record { f = l.f; rows = reverse l.rows.items; waiting = l.waiting } };
-
-    ghost invariant = { λ l. IsIndexed l.index (reverse l.rows.items) };
+    ghost view = { λ l. record { f = l.f; rows = l.rows; waiting = l.waiting } };
 }
 
 impl Log {
@@ -82,8 +68,7 @@ impl Log {
     {
         Log {
             f,
-            rows: Vec::new(alloc),
-            index: BTreeMap::new(alloc),
+            rows: Rows::new(alloc),
             waiting: Waiting::new(alloc),
         }
     }
@@ -103,18 +88,13 @@ impl Log {
         ensures ok { OnOk result (HasEntered self.old self.new (record { id = id; client = client; request = request; payload = payload.now })) }
         ensures err { OnErr result (self.new ≡ self.old) }
     {
-        let key = key_of(client, request);
-        let payload = Bytes::from_slice(alloc, payload)?;
-        self.rows.reserve(1)?;
-        let position = self.rows.len() as u32;
-        self.index.insert(key, position)?;
-        self.rows.push_reserved(LogRow {
+        let position = self.rows.enter(LogRow {
             id,
             client,
             request,
-            payload,
-        });
-        self.waiting.remove(key);
+            payload: Bytes::from_slice(alloc, payload)?,
+        })?;
+        self.waiting.remove(key_of(client, request));
         Ok(position)
     }
 
@@ -183,7 +163,7 @@ impl Log {
     pub fn row(&self, position: u32) -> Option<&LogRow>
         ensures { option_copied result ≡ row_at self.now.rows position }
     {
-        self.rows.as_slice().get(position as usize)
+        self.rows.row(position)
     }
 
     /// The position of the row of this client and request, where they have one.
@@ -191,7 +171,7 @@ impl Log {
         ensures value { result ≡ position_of self.now.rows client request }
         ensures exact { (position : ℕ) → (result ≡ Some position) ↔ HasPlace self.now.rows position client request }
     {
-        self.index.get(&key_of(client, request)).copied()
+        self.rows.find(client, request)
     }
 
     /// The numbers of each row's client and request have four bytes, as their types have.
@@ -200,13 +180,13 @@ impl Log {
     pub fn numbers_fit(&self)
         ensures { HaveFourBytes self.now.rows }
     {
-        let _ = &self.rows;
+        self.rows.numbers_fit()
     }
 
     /// How many rows there are, which is the position of the next.
     pub fn len(&self) -> u32
         ensures { result ≡ length self.now.rows }
     {
-        self.rows.len() as u32
+        self.rows.len()
     }
 }

@@ -1,0 +1,6 @@
+pub mod Parts
+pub mod Closing
+pub mod Chains
+pub mod Adopting
+pub mod TakingOver
+pub mod Taking

@@ -1,0 +1,4 @@
+pub mod Chain
+pub mod Epochs
+pub mod Standing
+pub mod Rows
