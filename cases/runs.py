@@ -128,11 +128,14 @@ class Run:
         self.compare()
 
     def end_soon(self) -> None:
-        """Commands in fair weather, once all connections stand, which each node must confirm soon; and then all that were handed in before."""
+        """Commands in fair weather, once all connections stand, which each node must confirm soon; and then all that were handed in before. The proxy
+        looks at what it passes on later, since that takes it as long as the nodes take."""
+        self.proxy.looks_later = True
         self.clear_up()
         self.await_links(len(self.pairs()))
         self.load.patience = min(self.bound, STANDSTILL)
         took = self.load.confirm_all(self.load.add(AFTER))
+        self.proxy.looks_later = False
         check(took <= self.soon, f"later commands were confirmed in {took:.1f} s, and not in {self.soon:g} s")
         self.took, self.load.patience = took, self.bound
         self.load.hand_in_later()

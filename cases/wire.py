@@ -151,8 +151,8 @@ class Proxy(threading.Thread):
         self.sights, self.lot, self.weather = sights, lot, Weather()
         self.selector, self.lock = selectors.DefaultSelector(), threading.Lock()
         self.doors, self.links, self.log = [], [], []
-        # What came and wasn't looked at yet, by its flow.
-        self.unseen = collections.deque()
+        # What came and wasn't looked at yet, by its flow, and whether it is to wait until somebody asks for what was seen.
+        self.unseen, self.looks_later = collections.deque(), False
         self.number = self.lost = self.overtaken = 0
         # Of each pair, how often its connection was cut.
         self.cuts = collections.Counter()
@@ -338,13 +338,14 @@ class Proxy(threading.Thread):
             self.see_all()
 
     def run(self) -> None:
-        """What comes goes on at once. It is looked at when nothing comes, or there is much, and a little at a time: so looking makes nothing late."""
+        """What comes goes on at once. It is looked at when nothing comes, or there is much, and a little at a time, unless it is to wait."""
         try:
             while self.goes:
-                events = self.selector.select(0 if self.unseen else TICK)
+                is_to_look = self.unseen and not self.looks_later
+                events = self.selector.select(0 if is_to_look else TICK)
                 with self.lock:
                     self.handle(events)
-                    if not events or len(self.unseen) > MOST_UNSEEN:
+                    if is_to_look and (not events or len(self.unseen) > MOST_UNSEEN):
                         self.see_some(SEEN_AT_ONCE)
         except Exception as fault:  # told by whoever leaves
             self.fault = fault
