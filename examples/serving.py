@@ -14,8 +14,8 @@ PROGRAM = os.path.abspath(os.environ.get("RITAS") or os.path.join(TOP, "ritas"))
 HOST = "127.0.0.1"
 PORTS = range(25000, 28000)
 PATIENCE = 30
-# The newest version of sessions that the program knows, and the one that is written if nothing else is asked for: version 3 isn't final yet.
-NEWEST_VERSION, USUAL_VERSION = 3, 1
+# The newest version of sessions that the program knows, and the one that is written if nothing else is asked for.
+NEWEST_VERSION, USUAL_VERSION = 3, 3
 KEY_DIGITS = 64
 JOURNAL = "ritas.journal"
 # Where there is a memory disk, folders are made there: a disk may take some milliseconds for each of the syncs of a journal, of which a command has
