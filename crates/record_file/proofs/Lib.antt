@@ -1,0 +1,9 @@
+pub mod Lists
+pub mod Images
+pub mod Groups
+pub mod Widths
+pub mod Records
+pub mod Walking
+pub mod MadeImages
+pub mod RenewedImages
+pub mod Readings
