@@ -1,6 +1,6 @@
 //! The form of a file of records.
 
-ghost use Rattle.std.specs.Prelude.{◌≡◌, ◌+◌, ◌≤◌, ◌^◌};
+ghost use Rattle.std.specs.Prelude.{◌≡◌, ◌+◌, ◌<◌, ◌≤◌, ◌^◌, ◌↔◌, IsTrue};
 ghost use Rattle.record_file.specs.Form.{IsForm, first_gate, width_of};
 
 use std::marker::Model;
@@ -89,6 +89,16 @@ impl RecordForm {
         ensures form { IsForm self.now }
     {
         self.limit
+    }
+
+    /// Whether so many bytes may be a record: their number fits its field.
+    pub fn takes(&self, size: u64) -> bool
+        ensures { IsTrue result ↔ (size < 256 ^ width_of self.now.width) }
+    {
+        match self.width {
+            LengthWidth::Two => size < 65_536,
+            LengthWidth::Four => size < 4_294_967_296,
+        }
     }
 
     /// The offset of the first gate.
