@@ -4,19 +4,13 @@
 //!
 //! | Module | Tests of |
 //! |---|---|
-//! | `replay` | `schedule_replay`, and by it `world_model` and `replica` |
-//! | `drive` | `schedule_drive`, and by it `schedule_stage` |
 //! | `nodes` | `node_loop` |
 //! | `sessions` | `node_session` |
 //! | `tcp` | `tcp_link` |
 #![tactic(auto)]
 
 #[cfg(test)]
-mod drive;
-#[cfg(test)]
 mod nodes;
-#[cfg(test)]
-mod replay;
 #[cfg(test)]
 mod sessions;
 #[cfg(test)]
