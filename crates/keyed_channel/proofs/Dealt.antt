@@ -1,15 +1,17 @@
 -- Keys that were dealt from one master key.
-use Rattle.std.specs.Prelude.{◌≡◌, ℕ, ◌-◌, ◌<◌, Bool, List, [], ◌∷◌, ◌++◌, length, replicate, if◌then◌else◌}
+use Rattle.std.specs.Prelude.{◌≡◌, ℕ, ◌-◌, ◌<◌, Bool, ◌&&◌, List, [], ◌∷◌, ◌++◌, length, replicate, refl, if◌then◌else◌}
 use Rattle.std.specs.Int.{w64, to_be_bytes}
 use Rattle.std.proofs.Common.{sym, ◌∙◌, ap, ap₂, inl, inr, arith}
 use Rattle.std.proofs.Math.Nat.{min_comm, max_comm}
 use Rattle.std.proofs.lemmas.List.{get_or_append_left}
 use Rattle.std.proofs.lemmas.List.FromFn.{length-map-range_with_len, get_or-map-range_with_len}
 use Rattle.std.proofs.lemmas.Bool.{eq-eqb, ne_eqb, cases_eq}
+use Rattle.std.proofs.lemmas.Slice.Eq.{bytes_eq-Decides}
 use Rattle.keyed_channel.specs.Hmac.{hmac_of}
 use Rattle.ritas_base.specs.Bytes.{zero_key}
 use Rattle.keyed_channel.specs.KeyRow.{key_with}
-use Rattle.keyed_channel.specs.Keyed.{pair_key, dealt, dealt_keys, keyed_entry, other_of_two, tags_of}
+use Rattle.keyed_channel.specs.Keyed.{pair_key, dealt, dealt_for, dealt_keys, keyed_entry, other_of_two, tags_of}
+use Rattle.keyed_channel.specs.EpochLaws.{DealtShareKeys}
 use Rattle.keyed_channel.specs.Laws.{MayAskEntries, EntryByPair, EntriesAgree}
 
 -- the key with j
@@ -25,6 +27,15 @@ key_with-dealt master session n i j lt =
 pub pair_key_swapped : (master : List ℕ) (session i j : ℕ) → pair_key master session i j ≡ pair_key master session j i
 pair_key_swapped master session i j =
     ap₂ (λ (low high : ℕ). hmac_of master (0x4b ∷ to_be_bytes w64 session ++ low ∷ high ∷ [])) (min_comm i j) (max_comm i j)
+
+-- so they share it
+pub dealt_share_keys_hold : DealtShareKeys
+dealt_share_keys_hold version master session n i j i_in j_in =
+    let mine = key_with (dealt_for version master session n i) j in
+    let theirs = key_with (dealt_for version master session n j) i in
+    let same : mine ≡ theirs =
+    key_with-dealt master session n i j j_in ∙ pair_key_swapped master session i j ∙ sym (key_with-dealt master session n j i i_in) in
+    ap₂ (λ (x y : Bool). x && y) (eq-eqb session session refl) ((bytes_eq-Decides mine theirs).1 same)
 
 -- the key of the two, for the one that is me
 pub other_key : (master : List ℕ) (session n me echoer verifier : ℕ) → echoer < n → verifier < n → MayAskEntries me echoer verifier

@@ -14,7 +14,7 @@ use Rattle.keyed_channel.specs.KeyRow.{key_with}
 use Rattle.keyed_channel.specs.Keyed.{dealt_for}
 use Rattle.ritas_base.specs.declared.mode.FrameVersion.{FrameVersion}
 use Rattle.ritas_base.specs.Bytes.{version_byte}
-use Rattle.keyed_channel.specs.Frames.{frame_front, sealed, tagged_front, tag_of, version_of, sender_of, receiver_of, seq_of, frame_body, opening_parts, is_tagged, Opening}
+use Rattle.keyed_channel.specs.Frames.{sealed, tagged_front, tag_of, version_of, sender_of, receiver_of, seq_of, frame_body, opening_parts, is_tagged, Opening}
 use Rattle.keyed_channel.specs.FramesLaws.{IsPlain, opened_is}
 use Rattle.keyed_channel.specs.Laws.{OpenedFromPeer, OpenedParts, OpensSealed}
 use Rattle.keyed_channel.proofs.Dealt.{key_with-dealt, pair_key_swapped}
@@ -55,12 +55,12 @@ word_is xs from long small =
     let size : length word ≡ 8 = omega (arith, length-take 8 (drop from xs), length-drop from xs) in
     sym (be_bytes_8 word (from_be_bytes w64 word) size (word_small xs from small) refl)
 
-front_is : (version : FrameVersion) (xs : List ℕ) (j : ℕ) → frame_overhead ≤ length xs → ((k : ℕ) → slice_index xs k < 256) → version_of xs ≡ version_byte version → receiver_of xs ≡ j
-    → tagged_front xs ≡ frame_front version (sender_of xs) j (seq_of xs) (frame_body xs)
-front_is version xs j long small one mine =
+pub front_is : (first : ℕ) (xs : List ℕ) (j : ℕ) → frame_overhead ≤ length xs → ((k : ℕ) → slice_index xs k < 256) → version_of xs ≡ first → receiver_of xs ≡ j
+    → tagged_front xs ≡ first ∷ sender_of xs ∷ j ∷ (to_be_bytes w64 (seq_of xs) ++ frame_body xs)
+front_is first xs j long small one mine =
     split_front xs (length xs - tag_length) (omega arith) (omega arith)
     ∙ ap₂ (λ (v r : ℕ). v ∷ sender_of xs ∷ r ∷ (slice_range xs 3 11 ++ frame_body xs)) one mine
-    ∙ ap (λ l. version_byte version ∷ sender_of xs ∷ j ∷ (l ++ frame_body xs)) (word_is xs 3 (omega arith) small)
+    ∙ ap (λ l. first ∷ sender_of xs ∷ j ∷ (l ++ frame_body xs)) (word_is xs 3 (omega arith) small)
 
 -- ---- the law
 
@@ -76,7 +76,7 @@ from_sender version master session n j bytes j_in small plain tagged =
     let k = dealt_for version master session n j in
     let by = dealt_for version master session n i in
     let i_in : i < n = plain.sender in
-    let front = front_is version bytes j plain.long small plain.version plain.receiver in
+    let front = front_is (version_byte version) bytes j plain.long small plain.version plain.receiver in
     let key : key_with k i ≡ key_with by j =
     key_with-dealt master session n j i i_in ∙ pair_key_swapped master session j i ∙ sym (key_with-dealt master session n i j j_in) in
     let tag = sym ((bytes_eq-Decides (hmac_of (key_with k i) (tagged_front bytes)) (tag_of bytes)).0 tagged) ∙ ap₂ hmac_of key front in

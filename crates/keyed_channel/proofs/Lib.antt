@@ -7,3 +7,7 @@ mod FromSender
 mod Lazily
 mod Noting
 mod NotedBySender
+mod Shared
+mod EpochKeys
+mod ChainNoting
+mod RowsSending

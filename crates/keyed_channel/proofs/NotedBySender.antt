@@ -4,18 +4,20 @@ use Rattle.std.proofs.Common.{sym, ◌∙◌, ap, ap₂, subst, arith}
 use Rattle.std.proofs.lemmas.List.{take-append-drop}
 use Rattle.std.proofs.lemmas.Bool.{and_parts, ltb-true, eqb-true, eqb-false, not-true}
 use Rattle.std.proofs.lemmas.Slice.Eq.{bytes_eq-Decides}
+use Rattle.ritas_base.specs.Bytes.{IsBytes}
 use Rattle.ritas_base.specs.declared.mode.FrameVersion.{FrameVersion}
 use Rattle.keyed_channel.specs.Lengths.{tag_length, note_front_length, note_length}
 use Rattle.keyed_channel.specs.Hmac.{hmac_of}
-use Rattle.keyed_channel.specs.KeyRow.{KeyRow, key_with}
+use Rattle.keyed_channel.specs.KeyRow.{KeyRow, key_with, shares_key}
 use Rattle.keyed_channel.specs.Keyed.{dealt_for}
 use Rattle.keyed_channel.specs.Frames.{tagged_front, tag_of, sender_of, receiver_of, is_peer, is_tagged}
 use Rattle.keyed_channel.specs.Notes.{note_front, sealed_note, again_note, may_ask_from, note_form, note_number, note_of, is_note, is_plain_note, noted}
 use Rattle.keyed_channel.specs.Laws.{NotedFromPeer, NotesSealed}
 use Rattle.keyed_channel.specs.declared.note.Note.{Note}
 use Rattle.keyed_channel.specs.declared.note.Note.TheVariants.{Ack, Again}
-use Rattle.keyed_channel.proofs.Dealt.{key_with-dealt, pair_key_swapped}
+use Rattle.keyed_channel.proofs.Dealt.{dealt_share_keys_hold}
 use Rattle.keyed_channel.proofs.FromSender.{word_is}
+use Rattle.keyed_channel.proofs.Shared.{one_key}
 
 -- ---- the front of a note, by its parts
 
@@ -37,6 +39,31 @@ front_is xs j long small note mine =
 
 -- ---- the note, by its sender
 
+-- its sender is another replica
+pub plain_peer : (k : KeyRow) (bytes : List ℕ) → is_plain_note k bytes ≡ true → (sender_of bytes < k.n) × (sender_of bytes ≢ k.me)
+plain_peer k bytes plain =
+    let i = sender_of bytes in
+    let long = and_parts (length bytes == note_length) (is_note bytes && (receiver_of bytes == k.me && is_peer k i)) plain in
+    let note = and_parts (is_note bytes) (receiver_of bytes == k.me && is_peer k i) long.1 in
+    let mine = and_parts (receiver_of bytes == k.me) (is_peer k i) note.1 in
+    let peer = and_parts (nat_lt i k.n) (not (i == k.me)) mine.1 in
+    (ltb-true i k.n peer.0, eqb-false i k.me (not-true (i == k.me) peer.1))
+
+-- where that one shares the key
+pub by_sender : (a b : KeyRow) (bytes : List ℕ) → shares_key a b ≡ true → IsBytes bytes → is_plain_note b bytes ≡ true → is_tagged b bytes ≡ true → sender_of bytes ≡ a.me
+    → bytes ≡ sealed_note a b.me (note_form bytes) (note_number bytes)
+by_sender a b bytes shared small plain tagged by =
+    let i = sender_of bytes in
+    let long = and_parts (length bytes == note_length) (is_note bytes && (receiver_of bytes == b.me && is_peer b i)) plain in
+    let note = and_parts (is_note bytes) (receiver_of bytes == b.me && is_peer b i) long.1 in
+    let mine = and_parts (receiver_of bytes == b.me) (is_peer b i) note.1 in
+    let front : tagged_front bytes ≡ note_front a.me b.me (note_form bytes) (note_number bytes) =
+    front_is bytes b.me (eqb-true _ _ long.0) small note.0 (eqb-true _ _ mine.0)
+    ∙ ap (λ (x : ℕ). note_front x b.me (note_form bytes) (note_number bytes)) by in
+    let key : key_with b i ≡ key_with a b.me = ap (λ (x : ℕ). key_with b x) by ∙ sym (one_key a b shared) in
+    let tag = sym ((bytes_eq-Decides (hmac_of (key_with b i) (tagged_front bytes)) (tag_of bytes)).0 tagged) ∙ ap₂ hmac_of key front in
+    sym (take-append-drop (length bytes - tag_length) bytes) ∙ ap₂ (λ (x y : List ℕ). x ++ y) front tag
+
 abbrev IsFromSender : FrameVersion → List ℕ → ℕ → ℕ → ℕ → List ℕ → ℕ → ℕ → ℕ → Type 0
 IsFromSender version master session n j bytes i form number =
     (i < n) × (i ≢ j) × (bytes ≡ sealed_note (dealt_for version master session n i) j form number)
@@ -46,18 +73,11 @@ from_sender : (version : FrameVersion) (master : List ℕ) (session n j : ℕ) (
     → IsFromSender version master session n j bytes (sender_of bytes) (note_form bytes) (note_number bytes)
 from_sender version master session n j bytes j_in small plain tagged =
     let i = sender_of bytes in
-    let k = dealt_for version master session n j in
-    let by = dealt_for version master session n i in
-    let long = and_parts (length bytes == note_length) (is_note bytes && (receiver_of bytes == j && is_peer k i)) plain in
-    let note = and_parts (is_note bytes) (receiver_of bytes == j && is_peer k i) long.1 in
-    let mine = and_parts (receiver_of bytes == j) (is_peer k i) note.1 in
-    let peer = and_parts (nat_lt i n) (not (i == j)) mine.1 in
-    let i_in : i < n = ltb-true i n peer.0 in
-    let front = front_is bytes j (eqb-true _ _ long.0) small note.0 (eqb-true _ _ mine.0) in
-    let key : key_with k i ≡ key_with by j =
-    key_with-dealt master session n j i i_in ∙ pair_key_swapped master session j i ∙ sym (key_with-dealt master session n i j j_in) in
-    let tag = sym ((bytes_eq-Decides (hmac_of (key_with k i) (tagged_front bytes)) (tag_of bytes)).0 tagged) ∙ ap₂ hmac_of key front in
-    (i_in, eqb-false i j (not-true (i == j) peer.1), sym (take-append-drop (length bytes - tag_length) bytes) ∙ ap₂ (λ (x y : List ℕ). x ++ y) front tag)
+    let a = dealt_for version master session n i in
+    let b = dealt_for version master session n j in
+    let peer = plain_peer b bytes plain in
+    let shared = dealt_share_keys_hold version master session n i j peer.0 j_in in
+    (peer.0, peer.1, by_sender a b bytes shared small plain tagged refl)
 
 -- and by what its parts are
 from_parts : (version : FrameVersion) (master : List ℕ) (session n j : ℕ) (bytes : List ℕ) (i form number : ℕ)
@@ -78,7 +98,7 @@ said_by true true said x h = (refl, refl, h)
 said_by true false said x h = cc
 said_by false b said x h = cc
 
-noted_by : (k : KeyRow) (bytes : List ℕ) (x : Note) → noted k bytes ≡ Some x
+pub noted_by : (k : KeyRow) (bytes : List ℕ) (x : Note) → noted k bytes ≡ Some x
     → (is_plain_note k bytes ≡ true) × (is_tagged k bytes ≡ true) × (note_of k.version (sender_of bytes) (note_form bytes) (note_number bytes) ≡ Some x)
 unfolding noted
 noted_by k bytes x h = said_by _ _ _ x h
@@ -132,15 +152,6 @@ notes_sealed_holds version master session n j bytes j_in small =
     (acked version master session n j bytes j_in small, wished_by version master session n j bytes j_in small)
 
 -- ---- what is noted, whatever the keys
-
-plain_peer : (k : KeyRow) (bytes : List ℕ) → is_plain_note k bytes ≡ true → (sender_of bytes < k.n) × (sender_of bytes ≢ k.me)
-plain_peer k bytes plain =
-    let i = sender_of bytes in
-    let long = and_parts (length bytes == note_length) (is_note bytes && (receiver_of bytes == k.me && is_peer k i)) plain in
-    let note = and_parts (is_note bytes) (receiver_of bytes == k.me && is_peer k i) long.1 in
-    let mine = and_parts (receiver_of bytes == k.me) (is_peer k i) note.1 in
-    let peer = and_parts (nat_lt i k.n) (not (i == k.me)) mine.1 in
-    (ltb-true i k.n peer.0, eqb-false i k.me (not-true (i == k.me) peer.1))
 
 ack_from_peer : (k : KeyRow) (bytes : List ℕ) (from seq : ℕ) → noted k bytes ≡ Some (Ack from seq) → (from < k.n) × (from ≢ k.me)
 ack_from_peer k bytes from seq h =

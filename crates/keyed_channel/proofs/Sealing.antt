@@ -1,5 +1,6 @@
 -- What is sealed opens, and what opens was sealed.
-use Rattle.std.specs.Prelude.{◌≡◌, ℕ, ◌+◌, ◌-◌, ◌^◌, ◌<◌, Bool, true, false, not, ◌==◌, ◌&&◌, nat_le, List, ◌++◌, length, take, drop, None, Ok, refl}
+use Rattle.std.specs.Prelude.{◌≡◌, ℕ, ◌+◌, ◌-◌, ◌^◌, ◌<◌, Bool, true, false, not, ◌==◌, ◌&&◌, nat_le, List, ◌∷◌, ◌++◌, length, take, drop, None, Ok, refl}
+use Rattle.std.specs.Int.{w64, to_be_bytes}
 use Rattle.std.proofs.Common.{sym, ◌∙◌, ap, ap₂, arith}
 use Rattle.std.proofs.Math.Seq.{take-append_seam, drop-append_seam}
 use Rattle.std.proofs.lemmas.List.{length-append}
@@ -45,15 +46,20 @@ tag_is front tag long =
     let at : length (front ++ tag) - tag_length ≡ length front = omega (arith, length-append front tag) in
     ap (λ k. drop k (front ++ tag)) at ∙ drop-append_seam front tag
 
+-- whatever the first byte is
+pub parts_of : (first from to number : ℕ) (body tag : List ℕ) → number < 2 ^ 64 → length tag ≡ tag_length
+    → opening_parts (first ∷ from ∷ to ∷ (to_be_bytes w64 number ++ body) ++ tag) ≡ record { from = from; seq = number; body = body }
+parts_of first from to number body tag small long =
+    let bytes = first ∷ from ∷ to ∷ (to_be_bytes w64 number ++ body) ++ tag in
+    let said : seq_of bytes ≡ number = from_be_bytes-to_be_bytes_8 number small in
+    let at : length bytes - tag_length - head_length ≡ length body = omega (arith, length-append body tag) in
+    let rest : frame_body bytes ≡ body = ap (λ k. take k (body ++ tag)) at ∙ take-append_seam body tag in
+    let opening_of : ℕ → List ℕ → Opening = λ q b. record { from = from; seq = q; body = b } in
+    ap₂ opening_of said rest
+
 pub parts_are : (version : FrameVersion) (from to seq : ℕ) (body tag : List ℕ) → seq < 2 ^ 64 → length tag ≡ tag_length
     → opening_parts (frame_front version from to seq body ++ tag) ≡ record { from = from; seq = seq; body = body }
-parts_are version from to seq body tag small long =
-    let bytes = frame_front version from to seq body ++ tag in
-    let number : seq_of bytes ≡ seq = from_be_bytes-to_be_bytes_8 seq small in
-    let at : length bytes - tag_length - head_length ≡ length body = omega (arith, length-append body tag) in
-    let said : frame_body bytes ≡ body = ap (λ k. take k (body ++ tag)) at ∙ take-append_seam body tag in
-    let opening_of : ℕ → List ℕ → Opening = λ q b. record { from = from; seq = q; body = b } in
-    ap₂ opening_of number said
+parts_are version from to seq body tag small long = parts_of (version_byte version) from to seq body tag small long
 
 -- what opens are the parts
 pub opens_as_sealed_holds : OpensAsSealed

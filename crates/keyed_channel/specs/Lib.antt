@@ -2,8 +2,12 @@ pub mod Lengths
 pub mod Hmac
 pub mod KeyRow
 pub mod Keyed
+pub mod Epochs
 pub mod Frames
 pub mod FramesLaws
 pub mod Notes
+pub mod ChainNotes
+pub mod RowsSent
 pub mod Laws
+pub mod EpochLaws
 pub mod Rows

@@ -7,8 +7,12 @@ use Rattle.keyed_channel.specs.KeyRow.{KeyRow}
 use Rattle.keyed_channel.specs.Keyed.{pair_string, coin_key_string, entry_string, coin_string, other_of_two}
 use Rattle.ritas_base.specs.declared.mode.FrameVersion.TheVariants.{One, Two, Three}
 use Rattle.keyed_channel.specs.Frames.{frame_front, opening}
+use Rattle.keyed_channel.specs.Epochs.{epoch_string, epoch_key}
 use Rattle.keyed_channel.specs.Notes.{note_front, note_of}
+use Rattle.keyed_channel.specs.ChainNotes.{chain_note_of}
+use Rattle.keyed_channel.specs.RowsSent.{rows_front, rows_opening}
 use Rattle.keyed_channel.specs.declared.note.Note.TheVariants.{Ack, Again}
+use Rattle.keyed_channel.specs.declared.chain_note.ChainNote.TheVariants.{Closed, Ask}
 use Rattle.keyed_channel.specs.declared.frame.OpenFault.TheVariants.{Short, Version, NotMine, NoSuchReplica}
 
 -- the front of frame 258 from 3 to 1, with two bytes
@@ -81,3 +85,26 @@ note_rows = (refl, refl, refl, refl, refl, refl, refl, refl, refl, refl, refl, r
 note_opening_row : opening keys_row (0x4e ∷ 0 ∷ 1 ∷ 1 ∷ replicate 40 0) ≡ Err Version
 unfolding opening
 note_opening_row = refl
+
+-- the string of epoch 258 in session 7; in epoch 0 a key is what it was
+epoch_rows : (epoch_string 7 258 ≡ 0x58 ∷ 0 ∷ 0 ∷ 0 ∷ 0 ∷ 0 ∷ 0 ∷ 0 ∷ 7 ∷ 0 ∷ 0 ∷ 0 ∷ 0 ∷ 0 ∷ 0 ∷ 1 ∷ 2 ∷ [])
+    × (epoch_key 7 0 (0xaa ∷ []) ≡ 0xaa ∷ [])
+epoch_rows = (refl, refl)
+
+-- forms 3 and 4 say their numbers, and there is no other form
+chain_note_rows : (chain_note_of 3 3 258 ≡ Some (Closed 3 258)) × (chain_note_of 3 4 258 ≡ Some (Ask 3 258))
+    × (chain_note_of 3 0 0 ≡ None) × (chain_note_of 3 1 0 ≡ None) × (chain_note_of 3 2 0 ≡ None) × (chain_note_of 3 5 0 ≡ None)
+chain_note_rows = (refl, refl, refl, refl, refl, refl)
+
+-- the front of rows from 3 to 1, from position 258 on, with two bytes
+rows_row : rows_front 3 1 258 (0xaa ∷ 0xbb ∷ []) ≡ 0x52 ∷ 3 ∷ 1 ∷ 0 ∷ 0 ∷ 0 ∷ 0 ∷ 0 ∷ 0 ∷ 1 ∷ 2 ∷ 0xaa ∷ 0xbb ∷ []
+rows_row = refl
+
+-- one byte too few, and then another first byte, receiver and sender: the replica itself, and one that there isn't
+rows_opening_rows : (rows_opening keys_row (0x52 ∷ 0 ∷ 1 ∷ replicate 39 0) ≡ None)
+    × (rows_opening keys_row (1 ∷ 0 ∷ 1 ∷ replicate 40 0) ≡ None)
+    × (rows_opening keys_row (0x52 ∷ 0 ∷ 0 ∷ replicate 40 0) ≡ None)
+    × (rows_opening keys_row (0x52 ∷ 1 ∷ 1 ∷ replicate 40 0) ≡ None)
+    × (rows_opening keys_row (0x52 ∷ 4 ∷ 1 ∷ replicate 40 0) ≡ None)
+unfolding rows_opening
+rows_opening_rows = (refl, refl, refl, refl, refl)

@@ -2,7 +2,9 @@
 
 ghost use Rattle.std.specs.Prelude.{◌≡◌};
 ghost use Rattle.keyed_channel.specs.Keyed.{coin_key_of, coin_of, coin_bit};
+ghost use Rattle.keyed_channel.specs.Epochs.{epoch_seed};
 
+use crate::epoch::epoch_key;
 use crate::tags::{finished, inner, outer};
 use ritas_base::{Coin, Slot};
 use sha2::Digest;
@@ -44,6 +46,18 @@ impl SeedCoin {
         ensures { result ≡ record { session = session; key = key } }
     {
         SeedCoin { session, key }
+    }
+
+    /// The coin of an epoch of the session, which is this in epoch 0. From epoch 1 on, its key is HMAC-SHA-256 (RFC 2104,
+    /// FIPS 180-4) under this one's of 0x58, the session and the epoch (8 bytes each, big-endian). That string is this
+    /// project's own.
+    pub fn of_epoch(&self, epoch: u64) -> SeedCoin
+        ensures { result ≡ epoch_seed epoch self.now }
+    {
+        SeedCoin {
+            session: self.session,
+            key: epoch_key(&self.key, self.session, epoch),
+        }
     }
 }
 

@@ -1,10 +1,11 @@
 //! Frames, sealed and opened: a body between its sender, receiver and number, and the tag of these.
 
-ghost use Rattle.std.specs.Prelude.{◌≡◌, ◌<◌, ◌≤◌, ◌++◌, length, IfOk, OnOk, MatchResult, Ok, Err, Some, None};
-ghost use Rattle.keyed_channel.specs.Lengths.{frame_overhead, least_frame};
+ghost use Rattle.std.specs.Prelude.{◌≡◌, ◌<◌, ◌≤◌, ◌∷◌, ◌++◌, length, IfOk, OnOk, MatchResult, Ok, Err, Some, None};
+ghost use Rattle.std.specs.Int.{w64, to_be_bytes};
+ghost use Rattle.keyed_channel.specs.Lengths.{tag_length, frame_overhead, least_frame};
 ghost use Rattle.ritas_base.specs.Bytes.{version_byte};
 ghost use Rattle.ritas_base.specs.Places.{first_failed};
-ghost use Rattle.keyed_channel.specs.Frames.{sealed, frame_front, opening, plain_fault, parts_tests, opening_parts, sender_of};
+ghost use Rattle.keyed_channel.specs.Frames.{sealed, frame_front, opening, plain_fault, parts_tests, opening_parts, sender_of, is_tagged};
 
 use crate::keys::Keys;
 use crate::lengths::{FRAME_OVERHEAD, LEAST_FRAME, TAG_LEN};
@@ -41,6 +42,25 @@ pub struct Opened<'a> {
     pub body: &'a [u8],
 }
 
+// What is tagged, with room for the tag: a first byte, the sender, the receiver, a number and a body.
+pub(crate) fn front_of(
+    alloc: Global,
+    first: u8,
+    me: u8,
+    to: u8,
+    number: u64,
+    body: &[u8],
+) -> Result<Vec<u8>, Mem>
+    ensures { IfOk result
+        (λ front. front.items ≡ first ∷ me ∷ to ∷ to_be_bytes w64 number ++ body.now) }
+{
+    let mut front = Vec::with_capacity(alloc, body.len() + FRAME_OVERHEAD)?;
+    front.extend_from_slice(&[first, me, to])?;
+    front.extend_from_slice(&number.to_be_bytes())?;
+    front.extend_from_slice(body)?;
+    Ok(front)
+}
+
 // The frame without its tag, with room for the tag.
 pub(crate) fn front(
     alloc: Global,
@@ -52,11 +72,7 @@ pub(crate) fn front(
 ) -> Result<Vec<u8>, Mem>
     ensures { IfOk result (λ frame. frame.items ≡ frame_front version me to seq body.now) }
 {
-    let mut frame = Vec::with_capacity(alloc, body.len() + FRAME_OVERHEAD)?;
-    frame.extend_from_slice(&[version.byte(), me, to])?;
-    frame.extend_from_slice(&seq.to_be_bytes())?;
-    frame.extend_from_slice(body)?;
-    Ok(frame)
+    front_of(alloc, version.byte(), me, to, seq, body)
 }
 
 // The front with its tag behind it.
@@ -124,6 +140,16 @@ pub(crate) fn check(keys: &Keys, bytes: &[u8]) -> Result<(), OpenFault>
     check_parts(keys, bytes.len(), bytes[0], bytes[1], bytes[2])
 }
 
+// Whether the tag at the end is that of the bytes before it, under the key that is shared with the sender.
+pub(crate) fn is_tagged(keys: &Keys, bytes: &[u8]) -> bool
+    requires long { tag_length ≤ length bytes.now }
+    requires sender { sender_of bytes.now < 31 }
+    ensures { result ≡ is_tagged keys.now bytes.now }
+{
+    let (front, tag) = bytes.split_at(bytes.len() - TAG_LEN);
+    hmac(keys.key(bytes[1]), front).as_slice() == tag
+}
+
 // What a frame says that passed all tests.
 pub(crate) fn as_opened<'a>(bytes: &'a [u8]) -> Opened<'a>
     requires { frame_overhead ≤ length bytes.now }
@@ -141,9 +167,7 @@ pub fn open_frame<'a>(keys: &Keys, bytes: &'a [u8]) -> Result<Opened<'a>, OpenFa
         (λ fault. opening keys.now bytes.now ≡ Err fault) }
 {
     check(keys, bytes)?;
-    let (front, tag) = bytes.split_at(bytes.len() - TAG_LEN);
-    let wanted = hmac(keys.key(bytes[1]), front);
-    if wanted.as_slice() != tag {
+    if !is_tagged(keys, bytes) {
         return Err(OpenFault::BadTag);
     }
     Ok(as_opened(bytes))

@@ -1,12 +1,14 @@
 //! The keys of one replica, dealt from a master key or given as a row.
 
-ghost use Rattle.std.specs.Prelude.{◌≡◌, ◌<◌, ◌≤◌, ℕ, List, length, take};
+ghost use Rattle.std.specs.Prelude.{◌≡◌, ◌<◌, ◌≤◌, ℕ, List, length, map, take};
 ghost use Rattle.sha2.proofs.Facts256.{length-sha256};
 ghost use Rattle.ritas_base.specs.declared.mode.FrameVersion.TheVariants.{One};
 ghost use Rattle.ritas_base.specs.Bytes.{filled_row};
 ghost use Rattle.keyed_channel.specs.KeyRow.{IsKeyRow, key_with};
 ghost use Rattle.keyed_channel.specs.Keyed.{pair_key, dealt_keys, dealt, tags_of};
+ghost use Rattle.keyed_channel.specs.Epochs.{epoch_key, epoch_keys};
 
+use crate::epoch::epoch_key;
 use crate::hashed_key::HashedKey;
 use crate::tags::{digest, finished, inner, outer};
 use ritas_base::{FrameVersion, Params, Slot, Tagger};
@@ -68,6 +70,18 @@ fn filled_row(keys: &[[u8; 32]]) -> [[u8; 32]; 31]
     row
 }
 
+// The keys of an epoch for these of the session, and zeros behind them.
+fn epoch_row(keys: &[[u8; 32]], session: u64, epoch: u64) -> [[u8; 32]; 31]
+    requires { length keys.now ≤ 31 }
+    ensures { result ≡ filled_row (map (epoch_key session epoch) keys.now) }
+{
+    let mut row = [[0; 32]; 31];
+    for (j, key) in keys.iter().enumerate() {
+        row[j] = epoch_key(key, session, epoch);
+    }
+    row
+}
+
 impl Keys {
     /// The keys of replica me, dealt from a master key: the one that i and j share is HMAC-SHA-256 (RFC 2104) under it of
     /// 0x4b, the session (8 bytes, big-endian), and the lesser and the greater of i and j. Its frames are of version 1.
@@ -114,6 +128,22 @@ impl Keys {
             me: self.me,
             row,
             version,
+        }
+    }
+
+    /// The keys of an epoch of the session, which are these in epoch 0. From epoch 1 on, each is HMAC-SHA-256 (RFC 2104,
+    /// FIPS 180-4) under the key of its place of 0x58, the session and the epoch (8 bytes each, big-endian). That string is
+    /// this project's own.
+    pub fn of_epoch(&self, epoch: u64) -> Keys
+        ensures { result ≡ epoch_keys epoch self.now }
+    {
+        let row = epoch_row(self.row(), self.session, epoch);
+        Keys {
+            session: self.session,
+            n: self.n,
+            me: self.me,
+            row,
+            version: self.version,
         }
     }
 

@@ -1,10 +1,11 @@
 //! Notes, sealed and opened: that a frame was taken, or that frames are to be sent again.
 
-ghost use Rattle.std.specs.Prelude.{◌≡◌, ◌<◌, ◌≤◌, ◌++◌, true, length};
+ghost use Rattle.std.specs.Prelude.{◌≡◌, ◌<◌, ◌≤◌, ◌&&◌, ◌++◌, true, length};
 ghost use Rattle.keyed_channel.specs.Lengths.{note_length};
-ghost use Rattle.keyed_channel.specs.Frames.{sender_of};
+ghost use Rattle.keyed_channel.specs.Frames.{sender_of, is_tagged};
 ghost use Rattle.keyed_channel.specs.Notes.{note_front, sealed_note, ack_note, again_note, may_ask_from, note_form, note_number, note_of, is_note, is_plain_note, noted};
 
+use crate::frame::is_tagged;
 use crate::keys::Keys;
 use crate::lengths::{NOTE_FRONT_LEN, NOTE_LEN, TAG_LEN};
 use crate::tags::hmac;
@@ -67,6 +68,14 @@ pub(crate) fn is_plain_note(keys: &Keys, bytes: &[u8]) -> bool
         && bytes[1] != keys.me()
 }
 
+// Whether bytes are a note for this replica, from another one, with a right tag.
+pub(crate) fn is_right_note(keys: &Keys, bytes: &[u8]) -> bool
+    ensures value { result ≡ (is_plain_note keys.now bytes.now && is_tagged keys.now bytes.now) }
+    ensures long { result ≡ true → length bytes.now ≡ note_length }
+{
+    is_plain_note(keys, bytes) && is_tagged(keys, bytes)
+}
+
 // Whether a replica may ask for frames from this number on in a session of a version.
 fn may_ask_from(version: FrameVersion, seq: u64) -> bool
     ensures { result ≡ may_ask_from version seq }
@@ -77,15 +86,23 @@ fn may_ask_from(version: FrameVersion, seq: u64) -> bool
     }
 }
 
+// The number of a note.
+pub(crate) fn note_number(bytes: &[u8]) -> u64
+    requires { length bytes.now ≡ note_length }
+    ensures { result ≡ note_number bytes.now }
+{
+    let mut number = [0; 8];
+    number.copy_from_slice(&bytes[4..NOTE_FRONT_LEN]);
+    u64::from_be_bytes(number)
+}
+
 // What the parts of a note say in a session of a version.
 pub(crate) fn note_of(version: FrameVersion, bytes: &[u8]) -> Option<Note>
     requires { length bytes.now ≡ note_length }
     ensures { result ≡ note_of version (sender_of bytes.now) (note_form bytes.now) (note_number bytes.now) }
 {
-    let mut number = [0; 8];
-    number.copy_from_slice(&bytes[4..NOTE_FRONT_LEN]);
-    let seq = u64::from_be_bytes(number);
     let from = bytes[1];
+    let seq = note_number(bytes);
     if bytes[3] == ACK {
         Some(Note::Ack { from, seq })
     } else if bytes[3] == AGAIN && may_ask_from(version, seq) {
@@ -96,7 +113,7 @@ pub(crate) fn note_of(version: FrameVersion, bytes: &[u8]) -> Option<Note>
 }
 
 // A note of a form and a number.
-fn seal_note(keys: &Keys, to: u8, form: u8, number: u64) -> [u8; NOTE_LEN]
+pub(crate) fn seal_note(keys: &Keys, to: u8, form: u8, number: u64) -> [u8; NOTE_LEN]
     requires { to < keys.now.n }
     ensures { result ≡ sealed_note keys.now to form number }
 {
@@ -129,12 +146,7 @@ pub fn seal_again(keys: &Keys, to: u8, seq: u64) -> [u8; NOTE_LEN]
 pub fn open_note(keys: &Keys, bytes: &[u8]) -> Option<Note>
     ensures { result ≡ noted keys.now bytes.now }
 {
-    if !is_plain_note(keys, bytes) {
-        return None;
-    }
-    let (front, tag) = bytes.split_at(bytes.len() - TAG_LEN);
-    let wanted = hmac(keys.key(bytes[1]), front);
-    if wanted.as_slice() != tag {
+    if !is_right_note(keys, bytes) {
         return None;
     }
     note_of(keys.version(), bytes)

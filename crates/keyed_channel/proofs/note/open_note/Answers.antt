@@ -1,30 +1,16 @@
--- The tests that need no key, and then the tag.
-use Rattle.std.proofs.Common.{◌≡◌, sym, ◌∙◌, ap, ap₂}
-use Rattle.std.specs.Str.{bytes_eq}
-use Rattle.keyed_channel.specs.Hmac.{hmac_of}
+-- Both tests, and then the parts.
+use Rattle.std.proofs.Common.{sym, ◌∙◌, ap}
 use Rattle.ritas_base.specs.declared.mode.FrameVersion.{FrameVersion}
+use Rattle.keyed_channel.specs.Frames.{sender_of}
 use Rattle.keyed_channel.specs.Notes.{note_of, note_form, note_number}
-use Rattle.keyed_channel.specs.Frames.{sender_of, is_tagged}
-use Rattle.keyed_channel.proofs.Opens.{false_from_not, true_from_not}
-use Rattle.keyed_channel.proofs.Noting.{note_plain, note_untagged, note_tagged}
+use Rattle.keyed_channel.proofs.Noting.{note_wrong, note_right}
 use Rattle.keyed_channel.proofs.note.open_note.Goals as goal
 
-pub returns-then-not-is_plain_note : goal.returns-then-not-is_plain_note
-returns-then-not-is_plain_note c = sym (note_plain _ _ (sym c.is_plain_note.ensures.value ∙ c.if-not-is_plain_note.true))
-
-pub returns-then-ne : goal.returns-then-ne
-returns-then-ne c =
-    let plain = sym c.is_plain_note.ensures.value ∙ c.if-not-is_plain_note.false in
-    let wanted = c.as_slice.ensures ∙ c.hmac-wanted.ensures ∙ ap₂ hmac_of c.key.ensures c.split_at.ensures.front in
-    let same : bytes_eq c.as_slice.result.now c.split_at.result.1.now ≡ is_tagged c.args.keys.now c.args.bytes.now =
-    ap₂ bytes_eq wanted c.split_at.ensures.back in
-    sym (note_untagged _ _ plain (sym same ∙ false_from_not _ _ c.ne.ensures c.if-ne.true))
+pub returns-then-not-is_right_note : goal.returns-then-not-is_right_note
+returns-then-not-is_right_note c = sym (note_wrong _ _ (sym c.is_right_note.ensures.value ∙ c.if-not-is_right_note.true))
 
 pub returns : goal.returns
 returns c =
-    let plain = sym c.is_plain_note.ensures.value ∙ c.if-not-is_plain_note.false in
-    let wanted = c.as_slice.ensures ∙ c.hmac-wanted.ensures ∙ ap₂ hmac_of c.key.ensures c.split_at.ensures.front in
-    let same : bytes_eq c.as_slice.result.now c.split_at.result.1.now ≡ is_tagged c.args.keys.now c.args.bytes.now =
-    ap₂ bytes_eq wanted c.split_at.ensures.back in
-    c.note_of.ensures ∙ (ap (λ (v : FrameVersion). note_of v (sender_of c.args.bytes.now) (note_form c.args.bytes.now) (note_number c.args.bytes.now)) c.version.ensures
-    ∙ sym (note_tagged _ _ plain (sym same ∙ true_from_not _ _ c.ne.ensures c.if-ne.false)))
+    c.note_of.ensures
+    ∙ ap (λ (v : FrameVersion). note_of v (sender_of c.args.bytes.now) (note_form c.args.bytes.now) (note_number c.args.bytes.now)) c.version.ensures
+    ∙ sym (note_right _ _ (sym c.is_right_note.ensures.value ∙ c.if-not-is_right_note.false))
