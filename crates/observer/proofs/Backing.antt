@@ -8,7 +8,7 @@ use Rattle.std.proofs.lemmas.List.{get_or_past}
 use Rattle.std.proofs.lemmas.List.Sums.{passes_at_first}
 use Rattle.std.proofs.lemmas.List.FromFn.{get_or-map-range_with_len, length-map-range_with_len}
 use Rattle.command_log.specs.Rows.{Row}
-use Rattle.observer.specs.Watching.{givers, is_backed_gift, gift_at_place, backed, gifts_at}
+use Rattle.observer.specs.Giving.{givers, is_backed_gift, gift_at_place, backed, gifts_at}
 
 -- the first of what was given of which f + 1 are
 pub record IsFirst (f : ℕ) (gifts : List (Option Row)) (k : ℕ) : Type 0 where

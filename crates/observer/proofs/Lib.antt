@@ -2,8 +2,10 @@ pub mod Rows
 pub mod Right
 pub mod Places
 pub mod Backing
-pub mod Entered
+pub mod Taken
+pub mod Giving
 pub mod Faults
+pub mod Entered
 pub mod Standing
 pub mod Parts
 pub mod Spelling

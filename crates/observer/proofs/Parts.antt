@@ -17,8 +17,9 @@ use Rattle.ritas_base.specs.Shortest.{option_or_some}
 use Rattle.layer_api.specs.Service.{IsPart}
 use Rattle.command_log.specs.Rows.{Row, row_at}
 use Rattle.command_log.specs.Pieces.{Piece, row_size, rows_within, piece_front, most_rows, longest_log_piece}
-use Rattle.observer.specs.Watching.{Gift, Observed, observed, is_row, row_from, is_near, window, backed, gifts_at, keeping, entered_given, entered_given_so}
-use Rattle.observer.specs.Laws.{AreWithin, LongestLaw, RowLaw, IsPieceOf, AreOfLogs, LogLaw, PieceIsOfLog}
+use Rattle.observer.specs.Giving.{Gift, is_row, row_from, is_near, window, backed, gifts_at, keeping, GivenStep, Gave, Passed, rows_given, gifts_given}
+use Rattle.observer.specs.Watching.{observed, entered_given, entered_given_so}
+use Rattle.observer.specs.Laws.{AreWithin, LongestLaw, RowLaw, IsPieceOf, AreOfLogs, GivenRowLaw, LogLaw, PieceIsOfLog}
 use Rattle.observer.proofs.Backing.{backed_is}
 
 -- ---- rows of a prefix
@@ -158,7 +159,7 @@ row_is_true p is_correct gave log longest at r enough within many given =
     let small = ltb-true both.member p.n parts.1 in
     part_row (log both.member) longest at r (within both.member small both.second) (given both.member small parts.0 both.second)
 
--- ---- the observer's log
+-- ---- what is kept of correct replicas
 
 is_row_is : (r : Row) (o : Option Row) → is_row r o ≡ true → o ≡ Some r
 is_row_is r None e = absurd (both_ways false refl e)
@@ -186,20 +187,44 @@ given_row log p at r of_log is = go (nat_le p.position at) refl is
         part_row of_log.moment log at r of_log.earlier (ap (row_at of_log.moment) (sym sum) ∙ of_log.rows (at - p.position) r there)
     go false above there = absurd (cc)
 
-keeping_true : (is_correct : ℕ → Bool) (log : ℕ → List Row) (g : Gift) (s : Observed) → (is_correct g.from ≡ true → IsPieceOf (log g.from) g.piece) → IsTrueOf is_correct log s.kept
-    → IsTrueOf is_correct log (keeping g s)
-keeping_true is_correct log g s of_log before = λ k at r correct is.
-    elim (option_or_some (s.kept k at) (if g.from == k && is_near (length s.rows) at then row_from g.piece.position g.piece.rows at else None) r is) [
+keeping_true : (is_correct : ℕ → Bool) (log : ℕ → List Row) (g : Gift) (len : ℕ) (kept : ℕ → ℕ → Option Row) → (is_correct g.from ≡ true → IsPieceOf (log g.from) g.piece)
+    → IsTrueOf is_correct log kept → IsTrueOf is_correct log (keeping g len kept)
+keeping_true is_correct log g len kept of_log before = λ k at r correct is.
+    elim (option_or_some (kept k at) (if g.from == k && is_near len at then row_from g.piece.position g.piece.rows at else None) r is) [
       | inl older ↦ before k at r correct older
       | inr now ↦
-          let parts = given (g.from == k && is_near (length s.rows) at) (row_from g.piece.position g.piece.rows at) r now.1 in
-          let mine = eqb-true g.from k (and_parts (g.from == k) (is_near (length s.rows) at) parts.0).0 in
+          let parts = given (g.from == k && is_near len at) (row_from g.piece.position g.piece.rows at) r now.1 in
+          let mine = eqb-true g.from k (and_parts (g.from == k) (is_near len at) parts.0).0 in
           subst (λ (j : ℕ). row_at (log j) at ≡ Some r) mine (given_row (log g.from) g.piece at r (of_log (ap is_correct mine ∙ correct)) parts.1)
     ]
   where
     given : (b : Bool) (o : Option Row) (r : Row) → (if b then o else None) ≡ Some r → (b ≡ true) × (o ≡ Some r)
     given true o r e = (refl, e)
     given false o r e = absurd (cc)
+
+-- what f + 1 replicas gave at a position
+backed_true : (p : Numbers) (is_correct : ℕ → Bool) (log : ℕ → List Row) (longest : List Row) (kept : ℕ → ℕ → Option Row) (at : ℕ) (r : Row)
+    → p.n - p.f ≤ count_by is_correct (replicas p.n) → AreWithin p is_correct log longest → IsTrueOf is_correct log kept → backed p.f (gifts_at p.n kept at) ≡ Some r
+    → row_at longest at ≡ Some r
+backed_true p is_correct log longest kept at r enough within are e =
+    let many = (backed_is p.f (gifts_at p.n kept at) r e).many in
+    let count = count_by-map (is_row r) (λ k. kept k at) (replicas p.n) in
+    row_is_true p is_correct (λ k. is_row r (kept k at)) log longest at r enough within (omega (arith, many, count))
+    (λ k small gave correct. are k at r correct (is_row_is r (kept k at) gave))
+
+-- ---- the row at the next position
+
+steps_true : (is_correct : ℕ → Bool) (log : ℕ → List Row) (first : ℕ) (h : List GivenStep) → AreOfLogs is_correct log (gifts_given h) → IsTrueOf is_correct log (rows_given first h).kept
+steps_true is_correct log first [] of_logs = λ k at r correct is. absurd (cc)
+steps_true is_correct log first (Gave g ∷ h) of_logs =
+    keeping_true is_correct log g (rows_given first h).len (rows_given first h).kept of_logs.0 (steps_true is_correct log first h of_logs.1)
+steps_true is_correct log first (Passed ∷ h) of_logs = steps_true is_correct log first h of_logs
+
+pub given_row_is_true : GivenRowLaw
+given_row_is_true p is_correct log longest first h r enough within of_logs e =
+    backed_true p is_correct log longest (rows_given first h).kept (rows_given first h).len r enough within (steps_true is_correct log first h of_logs) e
+
+-- ---- the observer's log
 
 entered_part : (p : Numbers) (is_correct : ℕ → Bool) (log : ℕ → List Row) (longest : List Row) (kept : ℕ → ℕ → Option Row) → p.n - p.f ≤ count_by is_correct (replicas p.n)
     → AreWithin p is_correct log longest → IsTrueOf is_correct log kept → (times : ℕ) (rows : List Row) → IsPart rows longest → IsPart (entered_given p kept times rows) longest
@@ -211,22 +236,17 @@ entered_part p is_correct log longest kept enough within are (suc times) rows pa
     go : ((r : Row) → IsPart (r ∷ rows) longest → IsPart (entered_given p kept times (r ∷ rows)) longest) → (o : Option Row) → backed p.f (gifts_at p.n kept (length rows)) ≡ o
         → IsPart (entered_given_so (entered_given p kept times) rows o) longest
     go next None e = part
-    go next (Some r) e =
-        let many = (backed_is p.f (gifts_at p.n kept (length rows)) r e).many in
-        let count = count_by-map (is_row r) (λ k. kept k (length rows)) (replicas p.n) in
-        let there =
-        row_is_true p is_correct (λ k. is_row r (kept k (length rows))) log longest (length rows) r enough within (omega (arith, many, count))
-        (λ k small gave correct. are k (length rows) r correct (is_row_is r (kept k (length rows)) gave)) in
-        next r (next_part rows longest r part there)
+    go next (Some r) e = next r (next_part rows longest r part (backed_true p is_correct log longest kept (length rows) r enough within are e))
 
 kept_true : (p : Numbers) (is_correct : ℕ → Bool) (log : ℕ → List Row) (h : List Gift) → AreOfLogs is_correct log h → IsTrueOf is_correct log (observed p h).kept
 kept_true p is_correct log [] of_logs = λ k at r correct is. absurd (cc)
-kept_true p is_correct log (g ∷ h) of_logs = keeping_true is_correct log g (observed p h) of_logs.0 (kept_true p is_correct log h of_logs.1)
+kept_true p is_correct log (g ∷ h) of_logs =
+    keeping_true is_correct log g (length (observed p h).rows) (observed p h).kept of_logs.0 (kept_true p is_correct log h of_logs.1)
 
 pub log_is_true : LogLaw
 log_is_true p is_correct log longest [] enough within of_logs = (longest, append-nil longest)
 log_is_true p is_correct log longest (g ∷ h) enough within of_logs =
-    entered_part p is_correct log longest (keeping g (observed p h)) enough within (kept_true p is_correct log (g ∷ h) of_logs) window (observed p h).rows
+    entered_part p is_correct log longest (observed p (g ∷ h)).kept enough within (kept_true p is_correct log (g ∷ h) of_logs) window (observed p h).rows
     (log_is_true p is_correct log longest h enough within of_logs.1)
 
 -- ---- what a log gives

@@ -6,8 +6,8 @@ use Rattle.std.proofs.lemmas.Bool.{and_parts, and_from, leb-true, ltb-true, le-l
 use Rattle.std.proofs.lemmas.Option.{slice_get_past}
 use Rattle.ritas_base.specs.Shortest.{option_or_none}
 use Rattle.command_log.specs.Rows.{Row}
-use Rattle.observer.specs.Watching.{row_from, is_near, window}
-use Rattle.observer.specs.Standing.{first_place, placed, each, Keeps}
+use Rattle.observer.specs.Giving.{row_from, is_near, window}
+use Rattle.observer.specs.Places.{first_place, placed, each, Keeps}
 
 -- a position is near
 pub record Near (len at : ℕ) : Type 0 where

@@ -1,105 +1,98 @@
--- What an observer stands for after a piece.
-use Rattle.std.specs.Prelude.{◌≡◌, ℕ, zero, suc, ◌+◌, ◌-◌, ◌≤◌, ◌==◌, Bool, true, false, ◌&&◌, nat_le, nat_lt, List, [], ◌∷◌, length, reverse, Option, Some, None, if◌then◌else◌, refl}
+-- For which steps the rows of an observer stand, and for what it stands after a piece.
+use Rattle.std.specs.Prelude.{◌≡◌, ℕ, zero, suc, ◌+◌, ◌-◌, List, [], ◌∷◌, length, reverse, Option, Some, None, refl}
 use Rattle.std.proofs.Common.{sym, ◌∙◌, ap, ap₂, subst, arith}
-use Rattle.std.specs.Option.{option_or}
-use Rattle.std.proofs.lemmas.Bool.{le-leb, le-ltb, cond-true}
 use Rattle.std.proofs.lemmas.List.{length-reverse}
-use Rattle.std.proofs.lemmas.Option.{slice_get_past}
 use Rattle.ritas_base.specs.Numbers.{Numbers}
 use Rattle.command_log.specs.Rows.{Row}
-use Rattle.observer.specs.Watching.{Gift, Observed, observed, row_from, is_near, window, keeping, entered_given, entered_given_so, backed, gifts_at}
+use Rattle.observer.specs.Giving.{Gift, window, keeping, backed, gifts_at, RowsGiven, GivenStep, Gave, Passed, after_step, rows_given, gifts_given, given_fault}
+use Rattle.observer.specs.Watching.{observed, entered_given, entered_given_so, given_beside, piece_fault}
+use Rattle.observer.specs.Places.{Window, AreKeptIn, IsTakenGift, AreTakenGifts, StandsForSteps}
+use Rattle.observer.specs.Standing.{Watcher, StandsForGifts, Entering}
+use Rattle.observer.specs.declared.fault.PieceFault.{PieceFault}
 use Rattle.observer.specs.Laws.{AllEnteredLaw}
 use Rattle.observer.proofs.Backing.{none_backed, none_given}
-use Rattle.observer.specs.Standing.{Watcher, placed, AreKeptIn, NoneFrom, Keeps, HasEnteredGiven, IsTakenGift, AreTakenGifts, StandsForGifts}
+use Rattle.observer.proofs.Taken.{NoneFrom}
+use Rattle.observer.proofs.Giving.{far_kept, none_far}
+use Rattle.observer.proofs.Entered.{entered_grows}
 
--- ---- what is kept after a piece
+-- ---- the steps of an observer: a position is passed for each row that is entered
 
--- the places have it
-pub keeping_placed : (g : Gift) (s : Observed) (len : ℕ) (old new : List (Option Row)) → len ≡ length s.rows → AreKeptIn len old s.kept
-    → Keeps len old new g.from g.piece.position g.piece.rows → AreKeptIn len new (keeping g s)
-keeping_placed g s len old new same are keeps = λ k at small is.
-    keeps k at small is
-    ∙ ap₂ option_or (are k at small is) (go (g.from == k) (is_near (length s.rows) at) (ap (λ j. is_near j at) (sym same) ∙ is) (row_from g.piece.position g.piece.rows at))
-  where
-    go : (b e : Bool) → e ≡ true → (o : Option Row) → (if b then o else None) ≡ (if b && e then o else None)
-    go false e is o = refl
-    go true e is o = sym (cond-true e o None is)
+abbrev passes : ℕ → List GivenStep → List GivenStep
+passes zero h = h
+passes (suc k) h = Passed ∷ passes k h
 
--- nothing is behind the window
-far_kept : (g : Gift) (s : Observed) (len : ℕ) → length s.rows ≤ len → NoneFrom (length s.rows + window) s.kept → NoneFrom (len + window) (keeping g s)
-far_kept g s len more none = λ k at above.
-    let not_near : is_near (length s.rows) at ≡ false = far (nat_le (length s.rows) at) (nat_lt at (length s.rows + window)) (le-ltb at (length s.rows + window) (omega (arith, above, more))) in
-    ap₂ (λ o (b : Bool). option_or o (if g.from == k && b then row_from g.piece.position g.piece.rows at else None)) (none k at (omega (arith, above, more))) not_near
-    ∙ neither (g.from == k) (row_from g.piece.position g.piece.rows at)
-  where
-    far : (a b : Bool) → b ≡ false → (a && b) ≡ false
-    far true b e = e
-    far false b e = refl
+passes_given : (first k : ℕ) (h : List GivenStep) → rows_given first (passes k h) ≡ record { len = (rows_given first h).len + k; kept = (rows_given first h).kept }
+passes_given first zero h =
+    let at : ℕ → RowsGiven = λ n. record { len = n; kept = (rows_given first h).kept } in
+    let same : (rows_given first h).len ≡ (rows_given first h).len + zero = omega arith in
+    ap at same
+passes_given first (suc k) h =
+    let at : ℕ → RowsGiven = λ n. record { len = n; kept = (rows_given first h).kept } in
+    let same : ((rows_given first h).len + k) + 1 ≡ (rows_given first h).len + suc k = omega arith in
+    ap (after_step Passed) (passes_given first k h) ∙ ap at same
 
-    neither : (b : Bool) (o : Option Row) → (if b && false then o else None) ≡ None
-    neither true o = refl
-    neither false o = refl
+passes_gifts : (k : ℕ) (h : List GivenStep) → gifts_given (passes k h) ≡ gifts_given h
+passes_gifts zero h = refl
+passes_gifts (suc k) h = passes_gifts k h
 
--- no row has the greatest position
-last_kept : (p : Numbers) (g : Gift) (s : Observed) → IsTakenGift p g → NoneFrom 4294967295 s.kept → NoneFrom 4294967295 (keeping g s)
-last_kept p g s taken none = λ k at above.
-    let below = taken.below in
-    let past : row_from g.piece.position g.piece.rows at ≡ None =
-    cond-true (nat_le g.piece.position at) _ None (le-leb g.piece.position at (omega (arith, below, above)))
-    ∙ slice_get_past g.piece.rows (at - g.piece.position) (omega (arith, below, above)) in
-    ap₂ (λ o q. option_or o (if g.from == k && is_near (length s.rows) at then q else None)) (none k at above) past ∙ neither (g.from == k && is_near (length s.rows) at)
-  where
-    neither : (b : Bool) → ◌≡◌ {A = Option Row} (if b then None else None) None
-    neither true = refl
-    neither false = refl
+abbrev pub steps_of : Numbers → List Gift → List GivenStep
+steps_of p [] = []
+steps_of p (g ∷ h) = passes (length (observed p (g ∷ h)).rows - length (observed p h).rows) (Gave g ∷ steps_of p h)
 
--- ---- the log only grows
-
-grows_so : (next : List Row → List Row) (rows : List Row) (o : Option Row) → ((qs : List Row) → length qs ≤ length (next qs)) → length rows ≤ length (entered_given_so next rows o)
-grows_so next rows None more = omega arith
-grows_so next rows (Some r) more = let h = more (r ∷ rows) in omega (arith, h)
-
-pub entered_grows : (p : Numbers) (kept : ℕ → ℕ → Option Row) (times : ℕ) (rows : List Row) → length rows ≤ length (entered_given p kept times rows)
-unfolding entered_given
-entered_grows p kept zero rows = omega arith
-entered_grows p kept (suc times) rows = grows_so (entered_given p kept times) rows (backed p.f (gifts_at p.n kept (length rows))) (λ qs. entered_grows p kept times qs)
-
--- ---- of all pieces
-
-pub none_far : (p : Numbers) (h : List Gift) → NoneFrom (length (observed p h).rows + window) (observed p h).kept
-none_far p [] = λ k at above. refl
-none_far p (g ∷ h) = far_kept g (observed p h) _ (entered_grows p (keeping g (observed p h)) window (observed p h).rows) (none_far p h)
-
-pub none_last : (p : Numbers) (h : List Gift) → AreTakenGifts p h → NoneFrom 4294967295 (observed p h).kept
-none_last p [] taken = λ k at above. refl
-none_last p (g ∷ h) taken = last_kept p g (observed p h) taken.0 (none_last p h taken.1)
-
--- ---- one more
-
-pub stands_more : (p : Numbers) (h : List Gift) (g : Gift) (o : Watcher) (n f : ℕ) (rows more : List Row) (mid new : List (Option Row)) → StandsForGifts p h o → record { n = n; f = f } ≡ p
-    → o.rows ≡ reverse rows → IsTakenGift p g → Keeps (length rows) o.places mid g.from g.piece.position g.piece.rows → HasEnteredGiven n f window rows mid more new
-    → StandsForGifts p (g ∷ h) (record { numbers = record { n = n; f = f }; rows = reverse more; places = new })
-stands_more p h g o n f rows more mid new stands same log taken keeps enters =
+steps_given : (p : Numbers) (h : List Gift) → rows_given 0 (steps_of p h) ≡ given_beside (observed p h)
+steps_given p [] = refl
+steps_given p (g ∷ h) =
     let s = observed p h in
-    let len : length rows ≡ length s.rows = sym (length-reverse rows) ∙ (ap length (sym log) ∙ ap length stands.rows) in
-    let old : AreKeptIn (length rows) o.places s.kept = subst (λ (k : ℕ). AreKeptIn k o.places s.kept) (ap length log ∙ length-reverse rows) stands.kept in
-    let far : NoneFrom (length rows + window) (keeping g s) = far_kept g s (length rows) (omega (arith, len)) (none_far p h) in
-    let did = enters (keeping g s) (keeping_placed g s (length rows) o.places mid len old keeps) far (last_kept p g s taken (none_last p h stands.taken)) in
+    let more : ℕ = length (observed p (g ∷ h)).rows - length s.rows in
+    let after : RowsGiven → RowsGiven = λ x. record { len = x.len + more; kept = keeping g x.len x.kept } in
+    let at : ℕ → RowsGiven = λ n. record { len = n; kept = keeping g (length s.rows) s.kept } in
+    let grows = entered_grows p (keeping g (length s.rows) s.kept) window s.rows in
+    let same : length s.rows + more ≡ length (observed p (g ∷ h)).rows = omega (arith, grows) in
+    passes_given 0 more (Gave g ∷ steps_of p h) ∙ (ap after (steps_given p h) ∙ ap at same)
+
+steps_gifts : (p : Numbers) (h : List Gift) → gifts_given (steps_of p h) ≡ h
+steps_gifts p [] = refl
+steps_gifts p (g ∷ h) = passes_gifts (length (observed p (g ∷ h)).rows - length (observed p h).rows) (Gave g ∷ steps_of p h) ∙ ap (λ l. g ∷ l) (steps_gifts p h)
+
+-- the rows that an observer was given stand for its steps
+pub stands_so : (p : Numbers) (h : List Gift) (rows : List Row) (w : Window) (o : Watcher) → record { numbers = w.numbers; rows = reverse rows; places = w.places } ≡ o → w.len ≡ length rows
+    → StandsForGifts p h o → StandsForSteps p 0 (steps_of p h) w
+stands_so p h rows w o view len stands =
+    let log : reverse rows ≡ o.rows = ap (λ (v : Watcher). v.rows) view in
+    let long : length o.rows ≡ w.len = ap length (sym log) ∙ (length-reverse rows ∙ sym len) in
+    let at : StandsForGifts p h (record { numbers = w.numbers; rows = reverse rows; places = w.places }) = subst (λ (v : Watcher). StandsForGifts p h v) (sym view) stands in
     record {
-      numbers = same;
-      rows = did.log ∙ ap₂ (λ (q : Numbers) l. entered_given q (keeping g s) window l) same (sym log ∙ stands.rows);
-      kept = subst (λ (k : ℕ). AreKeptIn k new (keeping g s)) (sym (length-reverse more)) did.waiting;
-      taken = (taken, stands.taken);
+      numbers = at.numbers;
+      len = sym long ∙ (ap length stands.rows ∙ ap (λ (s : RowsGiven). s.len) (sym (steps_given p h)));
+      kept =
+          subst (λ (s : RowsGiven). AreKeptIn w.len w.places s.kept) (sym (steps_given p h))
+          (subst (λ (n : ℕ). AreKeptIn n w.places (observed p h).kept) (length-reverse rows ∙ sym len) at.kept);
+      taken = subst (λ (l : List Gift). AreTakenGifts p l) (sym (steps_gifts p h)) stands.taken;
     }
 
--- ---- the same things by other names
+-- and the fault that they find is the observer's
+pub found_so : (p : Numbers) (h : List Gift) (rows : List Row) (w : Window) (o : Watcher) (from : ℕ) (bytes : List ℕ) (found : Option PieceFault)
+    → record { numbers = w.numbers; rows = reverse rows; places = w.places } ≡ o → w.len ≡ length rows → StandsForGifts p h o
+    → (StandsForSteps p 0 (steps_of p h) w → found ≡ given_fault p (rows_given 0 (steps_of p h)) from bytes) → found ≡ piece_fault p (observed p h) from bytes
+unfolding piece_fault
+found_so p h rows w o from bytes found view len stands finds =
+    finds (stands_so p h rows w o view len stands) ∙ ap (λ (s : RowsGiven). given_fault p s from bytes) (steps_given p h)
 
-pub keeps_as : (len len' : ℕ) (old old' new : List (Option Row)) (from first first' : ℕ) (rows rows' : List Row) → len ≡ len' → old ≡ old' → first ≡ first' → rows ≡ rows'
-    → Keeps len old new from first rows → Keeps len' old' new from first' rows'
-keeps_as len len' old old' new from first first' rows rows' e o f r keeps = λ k at small is.
-    keeps k at small (ap (λ l. is_near l at) e ∙ is)
-    ∙ (ap (λ l. option_or (placed l k at) (if from == k then row_from first rows at else None)) o
-    ∙ ap₂ (λ x l. option_or (placed old' k at) (if from == k then row_from x l at else None)) f r)
+-- ---- one piece more
+
+pub stands_more : (p : Numbers) (h : List Gift) (g : Gift) (rows more : List Row) (left : Window) (o : Watcher) → o.rows ≡ reverse rows → StandsForGifts p h o → IsTakenGift p g
+    → Entering p 0 window (Gave g ∷ steps_of p h) rows more left → left.len ≡ length more
+    → StandsForGifts p (g ∷ h) (record { numbers = left.numbers; rows = reverse more; places = left.places })
+stands_more p h g rows more left o log stands taken did len =
+    let s = observed p h in
+    let kept : (rows_given 0 (Gave g ∷ steps_of p h)).kept ≡ keeping g (length s.rows) s.kept = ap (λ (x : RowsGiven). keeping g x.len x.kept) (steps_given p h) in
+    let stays : AreKeptIn left.len left.places (keeping g (length s.rows) s.kept) = subst (λ (q : ℕ → ℕ → Option Row). AreKeptIn left.len left.places q) (did.same ∙ kept) did.stands.kept in
+    record {
+      numbers = did.stands.numbers;
+      rows = did.log ∙ ap₂ (λ q l. entered_given p q window l) kept (sym log ∙ stands.rows);
+      kept = subst (λ (n : ℕ). AreKeptIn n left.places (keeping g (length s.rows) s.kept)) (len ∙ sym (length-reverse more)) stays;
+      taken = (taken, stands.taken);
+    }
 
 -- ---- nothing more is entered
 
@@ -120,4 +113,7 @@ entered_all p kept (suc times) rows none =
 
 pub all_entered : AllEnteredLaw
 all_entered p [] = none_now p (λ k at. None) [] (λ k at above. refl)
-all_entered p (g ∷ h) = entered_all p (keeping g (observed p h)) window (observed p h).rows (far_kept g (observed p h) (length (observed p h).rows) (omega arith) (none_far p h))
+all_entered p (g ∷ h) =
+    let s = observed p h in
+    let far : NoneFrom (length s.rows + window) s.kept = subst (λ (x : RowsGiven). NoneFrom (x.len + window) x.kept) (steps_given p h) (none_far 0 (steps_of p h)) in
+    entered_all p (keeping g (length s.rows) s.kept) window s.rows (far_kept g (length s.rows) s.kept far)

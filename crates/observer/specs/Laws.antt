@@ -7,7 +7,8 @@ use Rattle.layer_api.specs.Service.{IsPart}
 use Rattle.command_log.specs.Rows.{Row, row_at}
 use Rattle.command_log.specs.Pieces.{Piece, piece_of_log, IsOfLog}
 use Rattle.observer.specs.Reading.{piece_in, form_fault, SpellsPiece}
-use Rattle.observer.specs.Watching.{Gift, observed, backed, gifts_at}
+use Rattle.observer.specs.Giving.{Gift, backed, gifts_at, next_backed, GivenStep, rows_given, gifts_given}
+use Rattle.observer.specs.Watching.{observed}
 
 -- ---- replicas and their logs
 
@@ -46,7 +47,7 @@ RowLaw = (p : Numbers) (is_correct gave : ℕ → Bool) (log : ℕ → List Row)
     → ((k : ℕ) → k < p.n → gave k ≡ true → is_correct k ≡ true → row_at (log k) at ≡ Some r)
     → row_at longest at ≡ Some r
 
--- ---- the observer's log
+-- ---- pieces of logs
 
 -- the piece is one of a log as it was at some moment, which is a prefix of what it came to be
 pub record IsPieceOf (log : List Row) (p : Piece) : Type 0 where
@@ -59,6 +60,21 @@ abbrev pub AreOfLogs : (ℕ → Bool) → (ℕ → List Row) → List Gift → T
 AreOfLogs is_correct log [] = Unit {0}
 AreOfLogs is_correct log (g ∷ h) =
     (is_correct g.from ≡ true → IsPieceOf (log g.from) g.piece) × AreOfLogs is_correct log h
+
+-- ---- the row at the next position
+
+-- Where each piece of a correct replica among these steps is one of its log, what f + 1 replicas gave at the next
+-- position is the row of the longest log there.
+abbrev pub GivenRowLaw : Type 0
+GivenRowLaw = (p : Numbers) (is_correct : ℕ → Bool) (log : ℕ → List Row) (longest : List Row) (first : ℕ)
+    (h : List GivenStep) (r : Row)
+    → p.n - p.f ≤ count_by is_correct (replicas p.n)
+    → AreWithin p is_correct log longest
+    → AreOfLogs is_correct log (gifts_given h)
+    → next_backed p (rows_given first h) ≡ Some r
+    → row_at longest (rows_given first h).len ≡ Some r
+
+-- ---- the observer's log
 
 abbrev pub LogLaw : Type 0
 LogLaw = (p : Numbers) (is_correct : ℕ → Bool) (log : ℕ → List Row) (longest : List Row) (h : List Gift)

@@ -6,7 +6,8 @@ use Rattle.command_log.specs.Rows.{Row}
 use Rattle.command_log.specs.Pieces.{piece_bytes, piece_of_log}
 use Rattle.client_port.specs.Messages.{four_bytes_at}
 use Rattle.observer.specs.Reading.{two_at, row_left, front_left, form_fault, piece_in}
-use Rattle.observer.specs.Watching.{Gift, observed, backed, entered_given, piece_fault}
+use Rattle.observer.specs.Giving.{Gift, backed, next_backed, Gave, Passed, rows_given, given_fault}
+use Rattle.observer.specs.Watching.{observed, entered_given, piece_fault}
 use Rattle.observer.specs.declared.fault.PieceFault.TheVariants as faults
 
 abbrev four : Numbers
@@ -103,6 +104,79 @@ one_byte_more : form_fault 4 (hi ++ 0 ∷ []) ≡ Some 23
 unfolding form_fault front_left row_left four_bytes_at two_at
 one_byte_more = refl
 
+-- the same at another position below 256
+abbrev hi_at : ℕ → List ℕ
+hi_at position = front position 1 ++ row 0 105
+
+-- ---- what f + 1 replicas gave at the next position
+
+nothing_given : next_backed four (rows_given 0 []) ≡ None
+unfolding backed
+nothing_given = refl
+
+given_by_one : next_backed four (rows_given 0 (Gave (gives 0 hi) ∷ [])) ≡ None
+unfolding four_bytes_at two_at backed
+given_by_one = refl
+
+given_twice_by_one : next_backed four (rows_given 0 (Gave (gives 0 hi) ∷ Gave (gives 0 hi) ∷ [])) ≡ None
+unfolding four_bytes_at two_at backed
+given_twice_by_one = refl
+
+given_by_two : next_backed four (rows_given 0 (Gave (gives 2 hi) ∷ Gave (gives 0 hi) ∷ [])) ≡ Some (says (codes "hi"))
+unfolding four_bytes_at two_at backed
+given_by_two = refl
+
+-- once it is passed, the next position is awaited, where they gave nothing
+is_passed : (rows_given 0 (Passed ∷ Gave (gives 2 hi) ∷ Gave (gives 0 hi) ∷ [])).len ≡ 1
+is_passed = refl
+
+none_behind_it : next_backed four (rows_given 0 (Passed ∷ Gave (gives 2 hi) ∷ Gave (gives 0 hi) ∷ [])) ≡ None
+unfolding four_bytes_at two_at backed
+none_behind_it = refl
+
+-- and what they gave there before counts
+given_before : next_backed four
+    (rows_given 0 (Passed ∷ Gave (gives 2 (hi_at 1)) ∷ Gave (gives 0 (hi_at 1)) ∷ [])) ≡ Some (says (codes "hi"))
+unfolding four_bytes_at two_at backed
+given_before = refl
+
+-- ---- what is kept of it
+
+first_is_kept : (rows_given 0 (Gave (gives 0 hj) ∷ Gave (gives 0 hi) ∷ [])).kept 0 0 ≡ Some (says (codes "hi"))
+unfolding four_bytes_at two_at
+first_is_kept = refl
+
+-- a row at a position that was passed isn't kept, and what was kept there before isn't kept twice
+behind_the_next : (rows_given 0 (Gave (gives 0 hi) ∷ Passed ∷ [])).kept 0 0 ≡ None
+unfolding four_bytes_at two_at
+behind_the_next = refl
+
+not_kept_twice : (rows_given 0 (Gave (gives 0 hj) ∷ Passed ∷ Gave (gives 0 hi) ∷ [])).kept 0 0
+    ≡ Some (says (codes "hi"))
+unfolding four_bytes_at two_at
+not_kept_twice = refl
+
+-- a row behind the window isn't kept, and one passed position later it is
+behind_the_window : (rows_given 0 (Gave (gives 0 (hi_at 64)) ∷ [])).kept 0 64 ≡ None
+unfolding four_bytes_at two_at
+behind_the_window = refl
+
+in_the_window : (rows_given 0 (Gave (gives 0 (hi_at 64)) ∷ Passed ∷ [])).kept 0 64 ≡ Some (says (codes "hi"))
+unfolding four_bytes_at two_at
+in_the_window = refl
+
+-- rows 4 and 5: from position 5 on row 4 isn't kept, and row 5 is
+abbrev two_rows : List ℕ
+two_rows = front 4 2 ++ row 0 105 ++ row 0 106
+
+before_the_first : (rows_given 5 (Gave (gives 0 two_rows) ∷ [])).kept 0 4 ≡ None
+unfolding four_bytes_at two_at
+before_the_first = refl
+
+from_the_first : (rows_given 5 (Gave (gives 0 two_rows) ∷ [])).kept 0 5 ≡ Some (says (codes "hj"))
+unfolding four_bytes_at two_at
+from_the_first = refl
+
 -- ---- what is entered
 
 one_gives : (observed four (gives 0 hi ∷ [])).rows ≡ []
@@ -162,3 +236,22 @@ changed = refl
 not_kept : piece_fault four (observed four (gives 2 hi ∷ gives 0 hi ∷ [])) 0 hj ≡ None
 unfolding piece_fault form_fault front_left row_left four_bytes_at two_at backed entered_given
 not_kept = refl
+
+-- ---- what isn't taken from a position on
+
+far_from_five : given_fault four (rows_given 5 []) 0 (hi_at 69) ≡ Some (faults.Ahead 5)
+unfolding given_fault form_fault front_left row_left four_bytes_at two_at
+far_from_five = refl
+
+near_to_five : given_fault four (rows_given 5 []) 0 (hi_at 68) ≡ None
+unfolding given_fault form_fault front_left row_left four_bytes_at two_at
+near_to_five = refl
+
+another_row : given_fault four (rows_given 0 (Gave (gives 0 hi) ∷ [])) 0 hj ≡ Some (faults.Changed 0)
+unfolding given_fault form_fault front_left row_left four_bytes_at two_at
+another_row = refl
+
+-- where the position was passed, another row is no change
+another_row_behind : given_fault four (rows_given 0 (Passed ∷ Gave (gives 0 hi) ∷ [])) 0 hj ≡ None
+unfolding given_fault form_fault front_left row_left four_bytes_at two_at
+another_row_behind = refl

@@ -3,8 +3,8 @@
 ghost use Rattle.std.specs.Prelude.{◌≡◌, ℕ, ◌+◌, ◌<◌, ◌≤◌, nat_le, length, None, if◌then◌else◌};
 ghost use Rattle.command_log.specs.Pieces.{row_front};
 ghost use Rattle.observer.specs.Reading.{row_at_front, rows_at_front, payload_size, AreWhole};
-ghost use Rattle.observer.specs.Watching.{is_same_row, is_another_row, changed_from};
-ghost use Rattle.observer.specs.Standing.{placed, each, all_places};
+ghost use Rattle.observer.specs.Giving.{is_same_row, is_another_row, changed_from};
+ghost use Rattle.observer.specs.Places.{placed, each, all_places};
 
 use crate::keeping::first_place;
 use crate::reading::payload_size;

@@ -2,12 +2,12 @@
 
 ghost use Rattle.std.specs.Prelude.{◌≡◌, ℕ, ◌+◌, ◌*◌, ◌%◌, ◌<◌, ◌≤◌, ◌==◌, true, length, slice_index_or, Some, None, if◌then◌else◌};
 ghost use Rattle.std.specs.Option.{option_or};
-ghost use Rattle.observer.specs.Watching.{row_from, is_near, window};
-ghost use Rattle.observer.specs.Standing.{first_place, placed, each, all_places, Keeps};
+ghost use Rattle.observer.specs.Giving.{row_from, is_near, window};
+ghost use Rattle.observer.specs.Places.{first_place, placed, each, all_places, Keeps};
 
 use command_log::LogRow;
 
-/// Rows are kept at so many positions from the log's length on.
+/// Rows are kept at so many positions from the next one on.
 pub(crate) const WINDOW: u32 = 64;
 
 /// Each of these positions has so many places.

@@ -1,6 +1,6 @@
 //! The laws of pieces, for whoever puts a log together from them.
 
-ghost use Rattle.observer.specs.Laws.{LongestLaw, RowLaw, LogLaw, AllEnteredLaw, PieceIsOfLog, PieceIsRead, PieceWasWritten};
+ghost use Rattle.observer.specs.Laws.{LongestLaw, RowLaw, GivenRowLaw, LogLaw, AllEnteredLaw, PieceIsOfLog, PieceIsRead, PieceWasWritten};
 
 /// A law: let at least n - f of n replicas be correct, and their logs be prefixes of one list. Where more than f
 /// replicas gave a row at a position, and each correct one of them has it there, it is the row of the longest correct
@@ -10,6 +10,16 @@ ghost use Rattle.observer.specs.Laws.{LongestLaw, RowLaw, LogLaw, AllEnteredLaw,
 pub fn row_is_true()
     ensures longest { LongestLaw }
     ensures row { RowLaw }
+{}
+
+/// A law of `GivenRows`: let at least n - f of n replicas be correct, and their logs be prefixes of one list. Let each
+/// piece that a correct replica gave be one of its log at some moment. Then the row that f + 1 replicas gave at the
+/// next position is that of the longest correct log there. It holds from any position on, and whichever positions were
+/// passed.
+///
+/// It does nothing: its contract is the law.
+pub fn given_row_is_true()
+    ensures { GivenRowLaw }
 {}
 
 /// A law: let at least n - f of n replicas be correct, their logs be prefixes of one list, and each piece that a

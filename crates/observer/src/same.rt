@@ -2,7 +2,7 @@
 
 ghost use Rattle.std.specs.Prelude.{◌≡◌, ◌<◌, length, count_by};
 ghost use Rattle.std.specs.List.{position};
-ghost use Rattle.observer.specs.Watching.{is_same_row, is_row, givers, is_backed_gift};
+ghost use Rattle.observer.specs.Giving.{is_same_row, is_row, givers, is_backed_gift};
 
 use command_log::LogRow;
 

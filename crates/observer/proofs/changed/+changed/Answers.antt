@@ -4,8 +4,8 @@ use Rattle.std.proofs.lemmas.Bool.{cond-true, cond-false, le-leb, lt-leb}
 use Rattle.std.proofs.lemmas.List.{get_or_read_under}
 use Rattle.command_log.specs.Rows.{Row}
 use Rattle.observer.specs.Reading.{AreWhole, row_at_front, rows_at_front}
-use Rattle.observer.specs.Watching.{is_another_row, changed_from}
-use Rattle.observer.specs.Standing.{placed}
+use Rattle.observer.specs.Giving.{is_another_row, changed_from}
+use Rattle.observer.specs.Places.{placed}
 use Rattle.observer.proofs.Rows.{first_whole, first_row, behind}
 use Rattle.observer.proofs.changed.+changed.Goals as goal
 use Rattle.observer.proofs.changed.+changed.Goals.{After-changed, else-first-len-via-then-first-len+else-is_another_row, else-first-len-via-else-first-len}

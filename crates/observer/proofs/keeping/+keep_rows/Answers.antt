@@ -1,5 +1,5 @@
 use Rattle.std.proofs.Common.{◌≡◌, ◌+◌, [], ◌∷◌, length, None, slice_index_or, length-append, ◌∙◌, ap, ap₂, arith}
-use Rattle.observer.specs.Standing.{first_place}
+use Rattle.observer.specs.Places.{first_place}
 use Rattle.observer.proofs.Places.{KeepsOne, keeps_more, keeps_none, keeps_placed}
 use Rattle.observer.proofs.keeping.+keep_rows.Goals as goal
 use Rattle.observer.proofs.keeping.+keep_rows.Goals.{then-at-len, else-at-len}

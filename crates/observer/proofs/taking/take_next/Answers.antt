@@ -1,10 +1,10 @@
 use Rattle.std.proofs.Common.{◌≡◌, ℕ, ◌+◌, ◌<◌, take, drop, slice_index_or, Some, None, sym, ◌∙◌, ap, subst, arith}
 use Rattle.std.specs.List.{position}
 use Rattle.std.proofs.lemmas.List.{get_or-take, get_or-drop, length-take}
-use Rattle.observer.specs.Watching.{is_backed_gift}
-use Rattle.observer.specs.Standing.{first_place, gifts_in}
+use Rattle.observer.specs.Giving.{is_backed_gift}
+use Rattle.observer.specs.Places.{first_place, gifts_in}
 use Rattle.observer.proofs.Backing.{first_is, backed_first, backed_none, first_there, if_none}
-use Rattle.observer.proofs.entering.take_next.Goals as goal
+use Rattle.observer.proofs.taking.take_next.Goals as goal
 
 pub returns-in_default-clause-row : goal.returns-in_default-clause-row
 returns-in_default-clause-row c =

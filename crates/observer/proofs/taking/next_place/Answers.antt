@@ -1,7 +1,7 @@
 use Rattle.std.proofs.Common.{◌≡◌, ℕ, ◌+◌, ◌-◌, take, drop, subst, arith}
 use Rattle.std.specs.List.{position}
-use Rattle.observer.specs.Watching.{is_backed_gift}
-use Rattle.observer.proofs.entering.next_place.Goals as goal
+use Rattle.observer.specs.Giving.{is_backed_gift}
+use Rattle.observer.proofs.taking.next_place.Goals as goal
 
 pub returns : goal.returns
 returns c =
