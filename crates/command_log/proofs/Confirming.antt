@@ -1,5 +1,5 @@
 -- What becomes of a log with one command more.
-use Rattle.std.specs.Prelude.{◌≡◌, ℕ, zero, suc, ◌+◌, ◌/◌, ◌%◌, ◌<◌, slice_index_or, replicate, ◌≤◌, Bool, true, false, not, ◌==◌, ◌&&◌, ◌||◌, if◌then◌else◌, List, [], ◌∷◌, length, drop, Option, None, Some, Result, Ok, Err, IfOk, OnOk, OnErr, refl}
+use Rattle.std.specs.Prelude.{◌≡◌, ℕ, zero, suc, ◌+◌, ◌/◌, ◌%◌, ◌<◌, slice_index_or, replicate, ◌≤◌, Bool, true, false, ◌==◌, ◌&&◌, ◌||◌, if◌then◌else◌, List, [], ◌∷◌, ◌++◌, length, drop, Option, None, Some, Result, Ok, Err, IfOk, OnOk, OnErr, refl}
 use Rattle.std.specs.Str.{bytes_eq}
 use Rattle.std.proofs.Common.{sym, ◌∙◌, ap, ap₂, subst, inl, inr, arith}
 use Rattle.std.proofs.lemmas.Bool.{cases_Bool, cases_lt, and_parts, and_from, both_ways, false_from_ne_true, eq-eqb, eqb-true, ne_eqb, leb-true, le-leb}
@@ -7,14 +7,15 @@ use Rattle.std.proofs.lemmas.Nat.Bits.{bit_at-zero}
 use Rattle.std.proofs.lemmas.Slice.Eq.{bytes_eq-Decides}
 use Rattle.ritas_base.specs.Members.{has_member}
 use Rattle.command_log.specs.declared.waiting.Waiting.{Waiting}
-use Rattle.command_log.specs.Rows.{CommandEntry, Row, client_of, request_of, row_of, has_row, is_same_command, is_origin, origins, is_confirmed, is_entered, rows_of, entered}
+use Rattle.command_log.specs.Rows.{CommandEntry, Row, Start, client_of, request_of, row_of, has_row, is_same_command, is_origin, origins, has_ended, is_entered, own_rows, rows_over, entered}
 use Rattle.command_log.specs.declared.origins.OriginSet.{OriginSet}
 use Rattle.command_log.specs.Index.{row_key}
 use Rattle.command_log.specs.Origins.{has_origin, origin_count, no_origins}
-use Rattle.command_log.specs.Standing.{Ledger, StandsFor, HasEntered, WaitsWith, IsEntryLost, payloads_at, origins_of, origins_at}
-use Rattle.command_log.specs.Laws.{has_its, enters, one_from, same_origin, row_covers}
+use Rattle.command_log.specs.Standing.{Ledger, own_of, StandsFor, HasEntered, WaitsWith, IsEntryLost, payloads_at, origins_of, origins_at}
+use Rattle.command_log.specs.Laws.{has_its, enters, enters_from, one_from, same_origin, own_covers}
 use Rattle.command_log.proofs.OriginSets.{counts_below}
 use Rattle.command_log.proofs.Places.{key_eq}
+use Rattle.command_log.proofs.Bases.{own_of_stands}
 
 -- the key of an entry's client and request
 abbrev pub key_in : CommandEntry → ℕ
@@ -57,53 +58,88 @@ more_origin e es mask set old new k l =
 -- ---- one that enters nothing
 
 -- an entry that adds no origin to its command
-pub nothing_new : (f : ℕ) (e : CommandEntry) (es : List CommandEntry) → ((k : ℕ) → k < 256 → is_origin (e ∷ es) (row_of e) k ≡ is_origin es (row_of e) k) → is_entered f e es (rows_of f es) ≡ false
-nothing_new f e es alike =
-    false_from_ne_true (is_entered f e es (rows_of f es)) (λ is.
-    let it = enters f e es (rows_of f es) is in
+nothing_new : (s : Start) (f : ℕ) (e : CommandEntry) (es : List CommandEntry) → ((k : ℕ) → k < 256 → is_origin (e ∷ es) (row_of e) k ≡ is_origin es (row_of e) k)
+    → is_entered s f e es (own_rows s f es) ≡ false
+nothing_new s f e es alike =
+    false_from_ne_true (is_entered s f e es (own_rows s f es)) (λ is.
+    let it = enters s f e es (own_rows s f es) is in
     let many = leb-true (f + 1) (origins (e ∷ es) (row_of e)) it.confirmed in
     let before = counts_below (is_origin (e ∷ es) (row_of e)) (is_origin es (row_of e)) alike in
-    both_ways (has_its e (rows_of f es)) it.none (row_covers f es (row_of e) (omega (arith, many, before))))
+    elim (own_covers s f es (row_of e) (omega (arith, many, before))) [
+      | inl has ↦ both_ways (has_its e (rows_over s f es)) it.none has
+      | inr ended ↦ both_ways (has_ended s (own_rows s f es)) it.lasts ended
+    ])
+
+-- one that comes when the log is over
+nothing_over : (s : Start) (f : ℕ) (e : CommandEntry) (es : List CommandEntry) (rs : List Row) → has_ended s rs ≡ true → is_entered s f e es rs ≡ false
+nothing_over s f e es rs ended = false_from_ne_true (is_entered s f e es rs) (λ is. both_ways (has_ended s rs) (enters s f e es rs is).lasts ended)
 
 -- an entry whose client and request have a row
-pub nothing_again : (f : ℕ) (e : CommandEntry) (es : List CommandEntry) (rs : List Row) → has_its e rs ≡ true → is_entered f e es rs ≡ false
-nothing_again f e es rs has = ap (λ b. not b && is_confirmed f (e ∷ es) (row_of e)) has
+nothing_again : (s : Start) (f : ℕ) (e : CommandEntry) (es : List CommandEntry) (rs : List Row) → has_its e (rs ++ s.base) ≡ true → is_entered s f e es rs ≡ false
+nothing_again s f e es rs has = false_from_ne_true (is_entered s f e es rs) (λ is. both_ways (has_its e (rs ++ s.base)) (enters s f e es rs is).none has)
 
 -- and one whose command has too few origins
-pub too_few : (f : ℕ) (e : CommandEntry) (es : List CommandEntry) (rs : List Row) → origins (e ∷ es) (row_of e) ≤ f → is_entered f e es rs ≡ false
-too_few f e es rs few =
-    false_from_ne_true (is_entered f e es rs) (λ is.
-    let many = leb-true (f + 1) (origins (e ∷ es) (row_of e)) (enters f e es rs is).confirmed in absurd (omega (arith, many, few)))
-
--- and one that is entered
-pub enough : (f : ℕ) (e : CommandEntry) (es : List CommandEntry) (rs : List Row) → has_its e rs ≡ false → f < origins (e ∷ es) (row_of e) → is_entered f e es rs ≡ true
-enough f e es rs none many = ap₂ (λ a b. not a && b) none (le-leb (f + 1) (origins (e ∷ es) (row_of e)) (omega (arith, many)))
-
--- what is answered
-pub answer_none : (l : Ledger) (e : CommandEntry) (es : List CommandEntry) → StandsFor l es → is_entered l.f e es l.rows ≡ false → None ≡ entered l.f e es
-answer_none l e es s unentered =
-    let is = ap (is_entered l.f e es) (sym s.rows) ∙ unentered in
-    ap (λ (b : Bool). if b then Some (length (rows_of l.f es)) else None) (sym is)
-
-pub answer_some : (l : Ledger) (e : CommandEntry) (es : List CommandEntry) (n : ℕ) → StandsFor l es → is_entered l.f e es l.rows ≡ true → n ≡ length l.rows → Some n ≡ entered l.f e es
-answer_some l e es n s entering at =
-    let is = ap (is_entered l.f e es) (sym s.rows) ∙ entering in
-    ap Some (at ∙ ap length s.rows) ∙ ap (λ (b : Bool). if b then Some (length (rows_of l.f es)) else None) (sym is)
+too_few : (s : Start) (f : ℕ) (e : CommandEntry) (es : List CommandEntry) (rs : List Row) → origins (e ∷ es) (row_of e) ≤ f → is_entered s f e es rs ≡ false
+too_few s f e es rs few =
+    false_from_ne_true (is_entered s f e es rs) (λ is.
+    let many = leb-true (f + 1) (origins (e ∷ es) (row_of e)) (enters s f e es rs is).confirmed in absurd (omega (arith, many, few)))
 
 -- ---- what the log stands for then
 
-rows_stay : (l : Ledger) (e : CommandEntry) (es : List CommandEntry) → StandsFor l es → is_entered l.f e es l.rows ≡ false → l.rows ≡ rows_of l.f (e ∷ es)
-rows_stay l e es s unentered =
-    s.rows ∙ ap (λ (b : Bool). if b then row_of e ∷ rows_of l.f es else rows_of l.f es) (sym (ap (is_entered l.f e es) (sym s.rows) ∙ unentered))
+-- whether a log that stands for some entries enters the row of one more
+abbrev enters_in : Ledger → CommandEntry → List CommandEntry → Bool
+enters_in l e es = is_entered l.start l.f e es (own_rows l.start l.f es)
+
+-- what is answered
+answer_none : (l : Ledger) (e : CommandEntry) (es : List CommandEntry) → enters_in l e es ≡ false → None ≡ entered l.start l.f e es
+answer_none l e es unentered = ap (λ (b : Bool). if b then Some (length (rows_over l.start l.f es)) else None) (sym unentered)
+
+answer_some : (l : Ledger) (e : CommandEntry) (es : List CommandEntry) → StandsFor l es → enters_in l e es ≡ true → Some (length l.rows) ≡ entered l.start l.f e es
+answer_some l e es s entering =
+    ap (λ (rs : List Row). Some (length rs)) s.rows ∙ ap (λ (b : Bool). if b then Some (length (rows_over l.start l.f es)) else None) (sym entering)
+
+-- the rows stay
+own_stay : (l : Ledger) (e : CommandEntry) (es : List CommandEntry) → enters_in l e es ≡ false → own_rows l.start l.f (e ∷ es) ≡ own_rows l.start l.f es
+own_stay l e es unentered = ap (λ (b : Bool). if b then row_of e ∷ own_rows l.start l.f es else own_rows l.start l.f es) unentered
+
+rows_stay : (l : Ledger) (e : CommandEntry) (es : List CommandEntry) → StandsFor l es → enters_in l e es ≡ false → l.rows ≡ rows_over l.start l.f (e ∷ es)
+rows_stay l e es s unentered = s.rows ∙ ap (λ (rs : List Row). rs ++ l.start.base) (sym (own_stay l e es unentered))
+
+-- so the log wasn't over, where it isn't now
+lasts_before : (l : Ledger) (e : CommandEntry) (es : List CommandEntry) → enters_in l e es ≡ false → has_ended l.start (own_rows l.start l.f (e ∷ es)) ≡ false
+    → has_ended l.start (own_rows l.start l.f es) ≡ false
+lasts_before l e es unentered lasts = ap (has_ended l.start) (sym (own_stay l e es unentered)) ∙ lasts
+
+-- a log that is over
+pub stays_over : (l : Ledger) (e : CommandEntry) (es : List CommandEntry) → has_ended l.start (own_of l) ≡ true → StandsFor l es
+    → (None ≡ entered l.start l.f e es) × StandsFor l (e ∷ es)
+stays_over l e es ended s = (
+  answer_none l e es unentered,
+  record {
+    rows = rows_stay l e es s unentered;
+    waiting = λ lasts r client request none k small. absurd (both_ways (has_ended l.start (own_rows l.start l.f es)) (lasts_before l e es unentered lasts) over);
+    gone = s.gone;
+  },
+)
+  where
+    over : has_ended l.start (own_rows l.start l.f es) ≡ true
+    over = ap (has_ended l.start) (sym (own_of_stands l es s)) ∙ ended
+
+    unentered : enters_in l e es ≡ false
+    unentered = nothing_over l.start l.f e es (own_rows l.start l.f es) over
 
 -- a log that is as it was
-pub stays : (l : Ledger) (e : CommandEntry) (es : List CommandEntry) → StandsFor l es → is_entered l.f e es l.rows ≡ false
-    → ((r : Row) → has_row l.rows r.client r.request ≡ false → (k : ℕ) → k < 256 → is_origin es r k ≡ is_origin (e ∷ es) r k) → StandsFor l (e ∷ es)
-stays l e es s unentered alike = record {
-  rows = rows_stay l e es s unentered;
-  waiting = λ r client request none k small. s.waiting r client request none k small ∙ alike r none k small;
-  gone = s.gone;
-}
+stays : (l : Ledger) (e : CommandEntry) (es : List CommandEntry) → StandsFor l es → enters_in l e es ≡ false
+    → ((r : Row) → has_row l.rows r.client r.request ≡ false → (k : ℕ) → k < 256 → is_origin es r k ≡ is_origin (e ∷ es) r k)
+    → (None ≡ entered l.start l.f e es) × StandsFor l (e ∷ es)
+stays l e es s unentered alike = (
+  answer_none l e es unentered,
+  record {
+    rows = rows_stay l e es s unentered;
+    waiting = λ lasts r client request none k small. s.waiting (lasts_before l e es unentered lasts) r client request none k small ∙ alike r none k small;
+    gone = s.gone;
+  },
+)
 
 -- commands of other clients and requests are others
 other_command : (e : CommandEntry) (rs : List Row) (r : Row) → has_its e rs ≡ true → has_row rs r.client r.request ≡ false → is_same_command (row_of e) r ≡ false
@@ -116,9 +152,11 @@ no_origin : (e : CommandEntry) (es : List CommandEntry) (r : Row) (k : ℕ) → 
 no_origin e es r k other = ap (λ b. (b && e.id.origin == k) || is_origin es r k) (sym other)
 
 -- where the client and request have a row
-pub stays_again : (l : Ledger) (e : CommandEntry) (es : List CommandEntry) → has_its e l.rows ≡ true → StandsFor l es → StandsFor l (e ∷ es)
+pub stays_again : (l : Ledger) (e : CommandEntry) (es : List CommandEntry) → has_its e l.rows ≡ true → StandsFor l es
+    → (None ≡ entered l.start l.f e es) × StandsFor l (e ∷ es)
 stays_again l e es has s =
-    stays l e es s (nothing_again l.f e es l.rows has) (λ r none k small. no_origin e es r k (other_command e l.rows r has none))
+    stays l e es s (nothing_again l.start l.f e es (own_rows l.start l.f es) (ap (has_its e) (sym s.rows) ∙ has))
+    (λ r none k small. no_origin e es r k (other_command e l.rows r has none))
 
 -- where the origin was one already
 pub known_origin : (e : CommandEntry) (es : List CommandEntry) → is_origin es (row_of e) e.id.origin ≡ true → (r : Row) (k : ℕ) → k < 256 → is_origin (e ∷ es) r k ≡ is_origin es r k
@@ -133,19 +171,16 @@ known_origin e es known r k small = go (is_same_command (row_of e) r && e.id.ori
         sym (there known (eqb-true e.id.origin k parts.1) parts.0)
     go false is = refl
 
-not_known : (l : Ledger) (e : CommandEntry) (es : List CommandEntry) → is_origin es (row_of e) e.id.origin ≡ true → StandsFor l es → is_entered l.f e es l.rows ≡ false
-not_known l e es known s = ap (is_entered l.f e es) s.rows ∙ nothing_new l.f e es (known_origin e es known (row_of e))
-
-pub stays_known : (l : Ledger) (e : CommandEntry) (es : List CommandEntry) → is_origin es (row_of e) e.id.origin ≡ true → StandsFor l es
-    → (None ≡ entered l.f e es) × StandsFor l (e ∷ es)
+stays_known : (l : Ledger) (e : CommandEntry) (es : List CommandEntry) → is_origin es (row_of e) e.id.origin ≡ true → StandsFor l es
+    → (None ≡ entered l.start l.f e es) × StandsFor l (e ∷ es)
 stays_known l e es known s =
-    let unentered = not_known l e es known s in
-    (answer_none l e es s unentered, stays l e es s unentered (λ r none k small. sym (known_origin e es known r k small)))
+    stays l e es s (nothing_new l.start l.f e es (known_origin e es known (row_of e))) (λ r none k small. sym (known_origin e es known r k small))
 
 -- ---- what a call finds
 
--- the client and request of an entry have no row, and these are the origins of its command
+-- the log isn't over, the client and request of an entry have no row, and these are the origins of its command
 pub record Found (l : Ledger) (e : CommandEntry) (mask : OriginSet) : Type 0 where
+  pub lasts : has_ended l.start (own_of l) ≡ false
   pub client : client_of e.command < 4294967296
   pub request : request_of e.command < 4294967296
   pub none : has_its e l.rows ≡ false
@@ -153,20 +188,26 @@ pub record Found (l : Ledger) (e : CommandEntry) (mask : OriginSet) : Type 0 whe
 
 pub found_from : (l : Ledger) (e : CommandEntry) (client request key : ℕ) (mask : OriginSet) (payload : List ℕ) (waiting : Waiting) → client ≡ client_of e.command → request ≡ request_of e.command
     → client < 4294967296 → request < 4294967296 → key ≡ row_key client request → payload ≡ drop 8 e.command → mask ≡ origins_at waiting key payload → waiting ≡ l.waiting
-    → has_its e l.rows ≡ false → Found l e mask
-found_from l e client request key mask payload waiting client_is request_is client_small request_small key_is payload_is mask_is waiting_is none = record {
+    → has_ended l.start (own_of l) ≡ false → has_its e l.rows ≡ false → Found l e mask
+found_from l e client request key mask payload waiting client_is request_is client_small request_small key_is payload_is mask_is waiting_is lasts none = record {
+  lasts = lasts;
   client = subst (λ (n : ℕ). n < 4294967296) client_is client_small;
   request = subst (λ (n : ℕ). n < 4294967296) request_is request_small;
   none = none;
   mask_is = mask_is ∙ (ap (λ w. origins_at w key payload) waiting_is ∙ ap₂ (origins_at l.waiting) (key_is ∙ ap₂ row_key client_is request_is) payload_is);
 }
 
-pub members : (l : Ledger) (e : CommandEntry) (es : List CommandEntry) (mask : OriginSet) → Found l e mask → StandsFor l es → (k : ℕ) → k < 256 → has_origin mask k ≡ is_origin es (row_of e) k
-members l e es mask found s k small = ap (λ m. has_origin m k) found.mask_is ∙ s.waiting (row_of e) found.client found.request found.none k small
+-- so no row that the log has closes it
+lasts_in : (l : Ledger) (e : CommandEntry) (es : List CommandEntry) (mask : OriginSet) → Found l e mask → StandsFor l es → has_ended l.start (own_rows l.start l.f es) ≡ false
+lasts_in l e es mask found s = ap (has_ended l.start) (sym (own_of_stands l es s)) ∙ found.lasts
+
+members : (l : Ledger) (e : CommandEntry) (es : List CommandEntry) (mask : OriginSet) → Found l e mask → StandsFor l es → (k : ℕ) → k < 256 → has_origin mask k ≡ is_origin es (row_of e) k
+members l e es mask found s k small =
+    ap (λ m. has_origin m k) found.mask_is ∙ s.waiting (lasts_in l e es mask found s) (row_of e) found.client found.request found.none k small
 
 -- its origin was one already
 pub knows : (l : Ledger) (e : CommandEntry) (es : List CommandEntry) (mask : OriginSet) → Found l e mask → e.id.origin < 256 → has_origin mask e.id.origin ≡ true → StandsFor l es
-    → (None ≡ entered l.f e es) × StandsFor l (e ∷ es)
+    → (None ≡ entered l.start l.f e es) × StandsFor l (e ∷ es)
 knows l e es mask found small old s = stays_known l e es (sym (members l e es mask found s e.id.origin small) ∙ old) s
 
 -- or it is a new one
@@ -182,15 +223,22 @@ joined : (l : Ledger) (e : CommandEntry) (es : List CommandEntry) (mask set : Or
     → (k : ℕ) → k < 256 → has_origin set k ≡ is_origin (e ∷ es) (row_of e) k
 joined l e es mask set found join s = more_origin e es mask set (members l e es mask found s) join.is
 
-pub is_few : (l : Ledger) (e : CommandEntry) (es : List CommandEntry) (mask set : OriginSet) → Found l e mask → Joined mask set e.id.origin → origin_count set ≤ l.f → StandsFor l es
-    → is_entered l.f e es l.rows ≡ false
+is_few : (l : Ledger) (e : CommandEntry) (es : List CommandEntry) (mask set : OriginSet) → Found l e mask → Joined mask set e.id.origin → origin_count set ≤ l.f → StandsFor l es
+    → enters_in l e es ≡ false
 is_few l e es mask set found join few s =
-    let count = counted set (e ∷ es) (row_of e) (joined l e es mask set found join s) in too_few l.f e es l.rows (omega (arith, count, few))
+    let count = counted set (e ∷ es) (row_of e) (joined l e es mask set found join s) in
+    too_few l.start l.f e es (own_rows l.start l.f es) (omega (arith, count, few))
 
-pub is_enough : (l : Ledger) (e : CommandEntry) (es : List CommandEntry) (mask set : OriginSet) → Found l e mask → Joined mask set e.id.origin → l.f < origin_count set → StandsFor l es
-    → is_entered l.f e es l.rows ≡ true
+is_enough : (l : Ledger) (e : CommandEntry) (es : List CommandEntry) (mask set : OriginSet) → Found l e mask → Joined mask set e.id.origin → l.f < origin_count set → StandsFor l es
+    → enters_in l e es ≡ true
 is_enough l e es mask set found join many s =
-    let count = counted set (e ∷ es) (row_of e) (joined l e es mask set found join s) in enough l.f e es l.rows found.none (omega (arith, count, many))
+    let count = counted set (e ∷ es) (row_of e) (joined l e es mask set found join s) in
+    enters_from l.start l.f e es (own_rows l.start l.f es)
+    (record {
+      lasts = lasts_in l e es mask found s;
+      none = ap (has_its e) (sym s.rows) ∙ found.none;
+      confirmed = le-leb (l.f + 1) (origins (e ∷ es) (row_of e)) (omega (arith, count, many));
+    })
 
 -- ---- its origin is kept
 
@@ -214,13 +262,13 @@ other_key e rs client request small other none has =
     let parts = and_parts (client_of e.command == client) (request_of e.command == request) is in
     both_ways (has_its e rs) none (ap₂ (has_row rs) (eqb-true (client_of e.command) client parts.0) (eqb-true (request_of e.command) request parts.1) ∙ has))
 
-pub stays_kept : (old new : Ledger) (e : CommandEntry) (es : List CommandEntry) (mask set : OriginSet) → Found old e mask → Joined mask set e.id.origin → WaitsWith old new (row_of e) set
-    → is_entered old.f e es old.rows ≡ false → StandsFor old es → StandsFor new (e ∷ es)
+stays_kept : (old new : Ledger) (e : CommandEntry) (es : List CommandEntry) (mask set : OriginSet) → Found old e mask → Joined mask set e.id.origin → WaitsWith old new (row_of e) set
+    → enters_in old e es ≡ false → StandsFor old es → StandsFor new (e ∷ es)
 stays_kept old new e es mask set found join keeps unentered s = record {
-  rows = keeps.rows ∙ (rows_stay old e es s unentered ∙ ap (λ f. rows_of f (e ∷ es)) (sym keeps.f));
-  waiting = λ r client request free k l.
+  rows = keeps.rows ∙ (rows_stay old e es s unentered ∙ ap₂ (λ t f. rows_over t f (e ∷ es)) (sym keeps.start) (sym keeps.f));
+  waiting = λ lasts r client request free k l.
       ap (λ m. has_origin m k) (keeps.waiting (row_key r.client r.request) r.payload ∙ ap (λ (b : Bool). if b then set else origins_at old.waiting (row_key r.client r.request) r.payload) (same_test e r found.request request))
-      ∙ now r (origins_at old.waiting (row_key r.client r.request) r.payload) k l (s.waiting r client request (ap (λ rs. has_row rs r.client r.request) (sym keeps.rows) ∙ free) k l) (is_same_command (row_of e) r) refl;
+      ∙ now r (origins_at old.waiting (row_key r.client r.request) r.payload) k l (s.waiting (lasts_in old e es mask found s) r client request (ap (λ rs. has_row rs r.client r.request) (sym keeps.rows) ∙ free) k l) (is_same_command (row_of e) r) refl;
   gone = λ client request a b has.
       let there = ap (λ rs. has_row rs client request) (sym keeps.rows) ∙ has in
       keeps.others (row_key client request) (other_key e old.rows client request found.request b found.none there) ∙ s.gone client request a b there;
@@ -235,20 +283,27 @@ stays_kept old new e es mask set found join keeps unentered s = record {
 abbrev is_its : CommandEntry → ℕ → ℕ → Bool
 is_its e client request = client_of e.command == client && request_of e.command == request
 
-pub stays_entered : (old new : Ledger) (e : CommandEntry) (es : List CommandEntry) → HasEntered old new (row_of e) → request_of e.command < 4294967296
-    → is_entered old.f e es old.rows ≡ true → StandsFor old es → StandsFor new (e ∷ es)
+stays_entered : (old new : Ledger) (e : CommandEntry) (es : List CommandEntry) → HasEntered old new (row_of e) → request_of e.command < 4294967296
+    → enters_in old e es ≡ true → StandsFor old es → StandsFor new (e ∷ es)
 stays_entered old new e es now small entering s = record {
   rows = rows_now;
-  waiting = λ r client request free k l. wait r client request (is_its e r.client r.request) refl (ap (λ rs. has_row rs r.client r.request) (sym now.rows) ∙ free) k l;
+  waiting = λ lasts r client request free k l. wait r client request (is_its e r.client r.request) refl (ap (λ rs. has_row rs r.client r.request) (sym now.rows) ∙ free) k l;
   gone = λ client request a b has. leave client request a b (is_its e client request) refl (ap (λ rs. has_row rs client request) (sym now.rows) ∙ has);
 }
   where
-    rows_now : new.rows ≡ rows_of new.f (e ∷ es)
+    own : List Row
+    own = own_rows old.start old.f es
+
+    rows_now : new.rows ≡ rows_over new.start new.f (e ∷ es)
     rows_now =
         now.rows
         ∙ (ap (λ rs. row_of e ∷ rs) s.rows
-        ∙ (ap (λ (b : Bool). if b then row_of e ∷ rows_of old.f es else rows_of old.f es) (sym (ap (is_entered old.f e es) (sym s.rows) ∙ entering))
-        ∙ ap (λ f. rows_of f (e ∷ es)) (sym now.f)))
+        ∙ (ap (λ (b : Bool). (if b then row_of e ∷ own else own) ++ old.start.base) (sym entering)
+        ∙ ap₂ (λ t f. rows_over t f (e ∷ es)) (sym now.start) (sym now.f)))
+
+    -- the log wasn't over
+    lasted : has_ended old.start own ≡ false
+    lasted = (enters old.start old.f e es own entering).lasts
 
     payloads : (client request : ℕ) (b : Bool) → request < 4294967296 → is_its e client request ≡ b
         → payloads_at new.waiting (row_key client request) ≡ (if b then None else payloads_at old.waiting (row_key client request))
@@ -261,7 +316,7 @@ stays_entered old new e es now small entering s = record {
     wait r client request true is free k l = absurd (both_ways true free refl)
     wait r client request false is free k l =
         ap (λ o. has_origin (origins_of o r.payload) k) (payloads r.client r.request false request is)
-        ∙ (s.waiting r client request free k l
+        ∙ (s.waiting lasted r client request free k l
         ∙ no_origin e es r k
         (false_from_ne_true (is_same_command (row_of e) r) (λ same.
         let one = one_from (row_of e) r same in
@@ -275,15 +330,15 @@ stays_entered old new e es now small entering s = record {
 
 -- ---- want of memory
 
-pub stays_wanting : (old new : Ledger) (e : CommandEntry) (es : List CommandEntry) → IsEntryLost old new (row_of e) → request_of e.command < 4294967296 → has_its e old.rows ≡ false → StandsFor old es → StandsFor new es
-stays_wanting old new e es keeps small none s = record {
-  rows = keeps.rows ∙ (s.rows ∙ ap (λ f. rows_of f es) (sym keeps.f));
-  waiting = λ r client request free k l.
+stays_wanting : (old new : Ledger) (e : CommandEntry) (es : List CommandEntry) (mask : OriginSet) → Found old e mask → IsEntryLost old new (row_of e) → StandsFor old es → StandsFor new es
+stays_wanting old new e es mask found keeps s = record {
+  rows = keeps.rows ∙ (s.rows ∙ ap₂ (λ t f. rows_over t f es) (sym keeps.start) (sym keeps.f));
+  waiting = λ lasts r client request free k l.
       ap (λ m. has_origin m k) (keeps.waiting (row_key r.client r.request) r.payload)
-      ∙ s.waiting r client request (ap (λ rs. has_row rs r.client r.request) (sym keeps.rows) ∙ free) k l;
+      ∙ s.waiting (lasts_in old e es mask found s) r client request (ap (λ rs. has_row rs r.client r.request) (sym keeps.rows) ∙ free) k l;
   gone = λ client request a b has.
       let there = ap (λ rs. has_row rs client request) (sym keeps.rows) ∙ has in
-      keeps.others (row_key client request) (other_key e old.rows client request small b none there) ∙ s.gone client request a b there;
+      keeps.others (row_key client request) (other_key e old.rows client request found.request b found.none there) ∙ s.gone client request a b there;
 }
 
 -- ---- what a call leaves
@@ -307,11 +362,11 @@ on_err (Ok x) more p = p
 on_err (Err fault) more p = more p
 
 module _ {M : Type 0} (old new : Ledger) (e : CommandEntry) (es : List CommandEntry) (mask set : OriginSet) (result : Result (Option ℕ) M) where
-  pub settled_position : Found old e mask → Joined mask set e.id.origin → Settles old new (row_of e) set result → StandsFor old es → IfOk result (λ position. position ≡ entered old.f e es)
+  pub settled_position : Found old e mask → Joined mask set e.id.origin → Settles old new (row_of e) set result → StandsFor old es → IfOk result (λ position. position ≡ entered old.start old.f e es)
   settled_position found join settles s =
       elim (cases_lt old.f (origin_count set)) [
-        | inl many ↦ if_ok result (λ position is. is ∙ answer_some old e es (length old.rows) s (is_enough old e es mask set found join many s) refl) (settles.many many).0
-        | inr few ↦ if_ok result (λ position is. is ∙ answer_none old e es s (is_few old e es mask set found join few s)) (settles.few few).0
+        | inl many ↦ if_ok result (λ position is. is ∙ answer_some old e es s (is_enough old e es mask set found join many s)) (settles.many many).0
+        | inr few ↦ if_ok result (λ position is. is ∙ answer_none old e es (is_few old e es mask set found join few s)) (settles.few few).0
       ]
 
   pub settled_ok : Found old e mask → Joined mask set e.id.origin → Settles old new (row_of e) set result → StandsFor old es → OnOk result (StandsFor new (e ∷ es))
@@ -322,7 +377,7 @@ module _ {M : Type 0} (old new : Ledger) (e : CommandEntry) (es : List CommandEn
       ]
 
   pub settled_err : Found old e mask → Settles old new (row_of e) set result → StandsFor old es → OnErr result (StandsFor new es)
-  settled_err found settles s = on_err result (λ left. stays_wanting old new e es left found.request found.none s) settles.err
+  settled_err found settles s = on_err result (λ left. stays_wanting old new e es mask found left s) settles.err
 
 -- ---- at first
 
@@ -335,10 +390,10 @@ zero_member : (k : ℕ) → has_origin no_origins k ≡ false
 unfolding has_member
 zero_member k = ap (λ (m : ℕ). has_member m (k % 32)) (zero_in 8 (k / 32)) ∙ ap (λ (b : ℕ). b == 1) (bit_at-zero (k % 32))
 
--- a log of which nothing is known but that it is empty
-pub stands_new : (l : Ledger) → l.rows ≡ [] → ((key : ℕ) → payloads_at l.waiting key ≡ None) → StandsFor l []
-stands_new l rows nothing = record {
+-- a log that has its base alone, and of which nothing else is known
+pub stands_begun : (l : Ledger) → l.rows ≡ l.start.base → ((key : ℕ) → payloads_at l.waiting key ≡ None) → StandsFor l []
+stands_begun l rows nothing = record {
   rows = rows;
-  waiting = λ r client request free k l2. ap (λ o. has_origin (origins_of o r.payload) k) (nothing (row_key r.client r.request)) ∙ zero_member k;
+  waiting = λ lasts r client request free k l2. ap (λ o. has_origin (origins_of o r.payload) k) (nothing (row_key r.client r.request)) ∙ zero_member k;
   gone = λ client request a b has. nothing (row_key client request);
 }

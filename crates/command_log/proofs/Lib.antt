@@ -1,4 +1,5 @@
 pub mod OriginSets
 pub mod Places
 pub mod Kept
+pub mod Bases
 pub mod Confirming

@@ -1,4 +1,5 @@
 pub mod Rows
+pub mod Fresh
 pub mod Origins
 pub mod Index
 pub mod ByteKeys
@@ -7,3 +8,4 @@ pub mod Worked
 pub mod Fits
 pub mod Pieces
 pub mod Laws
+pub mod ChainLaws

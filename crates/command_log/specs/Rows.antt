@@ -1,6 +1,7 @@
 -- The log of commands: one row for each client and request, where a command of theirs first has f + 1 origins in the identifier log.
--- Lists have the newest first.
-use Rattle.std.specs.Prelude.{◌≡◌, ℕ, ◌+◌, Bool, false, not, ◌==◌, ◌&&◌, ◌||◌, if◌then◌else◌, nat_le, List, [], ◌∷◌, ◌⊎◌, take, drop, length, reverse, count_by, slice_get, Option, None, Some, unwrap_or}
+-- The log of an epoch of a chain has the rows of the epochs before below its own, and ends with a closing row. Lists have the newest
+-- first.
+use Rattle.std.specs.Prelude.{◌≡◌, ℕ, ◌+◌, Bool, true, false, not, ◌==◌, ◌&&◌, ◌||◌, if◌then◌else◌, nat_le, List, [], ◌∷◌, ◌++◌, ◌⊎◌, take, drop, length, reverse, count_by, slice_get, Option, None, Some, unwrap_or}
 use Rattle.std.specs.Int.{w32, from_be_bytes}
 use Rattle.std.specs.Str.{bytes_eq}
 use Rattle.ritas_base.specs.declared.id.Id.{Id}
@@ -24,9 +25,12 @@ client_of command = from_be_bytes w32 (take 4 command)
 abbrev pub request_of : List ℕ → ℕ
 request_of command = from_be_bytes w32 (take 4 (drop 4 command))
 
+abbrev pub row_with : Id → ℕ → ℕ → List ℕ → Row
+row_with id client request payload = record { id = id; client = client; request = request; payload = payload }
+
 -- the row of an entry; what is left of its command is the payload
 abbrev pub row_of : CommandEntry → Row
-row_of e = record { id = e.id; client = client_of e.command; request = request_of e.command; payload = drop 8 e.command }
+row_of e = row_with e.id (client_of e.command) (request_of e.command) (drop 8 e.command)
 
 -- whether a row is of this client and request
 abbrev pub has_row : List Row → ℕ → ℕ → Bool
@@ -54,21 +58,64 @@ origins es r = count_origins (is_origin es r)
 abbrev pub is_confirmed : ℕ → List CommandEntry → Row → Bool
 is_confirmed f es r = nat_le (f + 1) (origins es r)
 
--- the row of the newest entry is entered where its command is confirmed, and its client and request have none
-abbrev pub is_entered : ℕ → CommandEntry → List CommandEntry → List Row → Bool
-is_entered f e es rs = not (has_row rs (client_of e.command) (request_of e.command)) && is_confirmed f (e ∷ es) (row_of e)
+-- ---- where a log begins, and what ends it
 
-abbrev pub rows_with : ℕ → CommandEntry → List CommandEntry → List Row → List Row
-rows_with f e es rs = if is_entered f e es rs then row_of e ∷ rs else rs
+-- the client number that is no client's: replicas submit the row that closes an epoch under it
+abbrev pub closing_client : ℕ
+closing_client = 4294967295
 
--- the rows of these entries
+abbrev pub closes : Row → Bool
+closes r = r.client == closing_client
+
+-- whether one of these rows closes an epoch
+abbrev pub is_closed : List Row → Bool
+is_closed [] = false
+is_closed (r ∷ rs) = closes r || is_closed rs
+
+-- where a log begins: the rows of the epochs before its own, which are its base, and whether a closing row ends its own
+pub record Start : Type 0 where
+  pub base : List Row
+  pub chained : Bool
+
+-- a session by itself
+abbrev pub alone : Start
+alone = record { base = []; chained = false }
+
+-- an epoch of a chain, whose rows so far are these
+abbrev pub chained_on : List Row → Start
+chained_on rows = record { base = rows; chained = true }
+
+-- whether a log is over, with these rows above its base
+abbrev pub has_ended : Start → List Row → Bool
+has_ended s rs = s.chained && is_closed rs
+
+-- ---- the rows
+
+-- the row of the newest entry is entered where the log isn't over, its client and request have none, in the base neither, and its
+-- command is confirmed
+abbrev pub is_entered : Start → ℕ → CommandEntry → List CommandEntry → List Row → Bool
+is_entered s f e es rs =
+    not (has_ended s rs) && (not (has_row (rs ++ s.base) (client_of e.command) (request_of e.command)) && is_confirmed f (e ∷ es) (row_of e))
+
+abbrev pub rows_with : Start → ℕ → CommandEntry → List CommandEntry → List Row → List Row
+rows_with s f e es rs = if is_entered s f e es rs then row_of e ∷ rs else rs
+
+-- the rows of these entries, above the base
+abbrev pub own_rows : Start → ℕ → List CommandEntry → List Row
+own_rows s f [] = []
+own_rows s f (e ∷ es) = rows_with s f e es (own_rows s f es)
+
+-- with those of the base
+abbrev pub rows_over : Start → ℕ → List CommandEntry → List Row
+rows_over s f es = own_rows s f es ++ s.base
+
+-- the rows of these entries in a session by itself
 abbrev pub rows_of : ℕ → List CommandEntry → List Row
-rows_of f [] = []
-rows_of f (e ∷ es) = rows_with f e es (rows_of f es)
+rows_of f es = own_rows alone f es
 
 -- where the row of the newest entry comes to stand, if it is entered
-abbrev pub entered : ℕ → CommandEntry → List CommandEntry → Option ℕ
-entered f e es = if is_entered f e es (rows_of f es) then Some (length (rows_of f es)) else None
+abbrev pub entered : Start → ℕ → CommandEntry → List CommandEntry → Option ℕ
+entered s f e es = if is_entered s f e es (own_rows s f es) then Some (length (rows_over s f es)) else None
 
 -- positions count from the oldest row, from 0
 abbrev pub row_at : List Row → ℕ → Option Row
@@ -88,9 +135,13 @@ abbrev pub entries_of_log : (Id → Option (List ℕ)) → List Id → List Comm
 entries_of_log delivered [] = []
 entries_of_log delivered (x ∷ xs) = entry_of_id delivered x ∷ entries_of_log delivered xs
 
--- the log of commands
+-- the log of commands of a session by itself
 abbrev pub command_rows : ℕ → (Id → Option (List ℕ)) → List Id → List Row
 command_rows f delivered log = rows_of f (entries_of_log delivered log)
+
+-- and that of any, with its base
+abbrev pub chain_rows : Start → ℕ → (Id → Option (List ℕ)) → List Id → List Row
+chain_rows s f delivered log = rows_over s f (entries_of_log delivered log)
 
 -- each client and request stands there once
 abbrev pub AreOnce : List Row → Type 0

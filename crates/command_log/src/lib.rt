@@ -20,10 +20,15 @@
 //! begins with its client's number and its request's, that f + 1 origins confirm it, and that a request counts once, is
 //! this project's own.
 //!
+//! A cluster may go from one session, an epoch, to the next. The log of the next, `Log::over`, begins with the rows of the
+//! epochs before as its base: positions go on from there, and a request that has a row there gets no second one. A
+//! confirmed command of the client number 4,294,967,295, which is no client's, ends it: what comes behind that row is
+//! void. A closing row of the base ends nothing. `Log::into_rows` hands the rows on, so that none is copied.
+//!
 //! Contracts see `Log` as a `Ledger`, whose rows have the newest first, and say for which list of entries it stands
 //! (`specs/Rows.antt`, `specs/Standing.antt`). Each call says exactly what it answers, and `append` what it leaves. The
-//! laws that replicas use stand on `command_rows` and `log_follows`: the rows of a part of an identifier log are a part of
-//! the rows, and each row's command has f + 1 origins.
+//! laws that replicas use stand on `command_rows`, `chain_rows` and `log_follows`: the rows of a part of an identifier log
+//! are a part of the rows, and each row's command has f + 1 origins.
 //!
 //! Beside the rows stands an index of their positions, a map in order of one key of 64 bits for client and request. A map
 //! with the same keys has the commands that wait, by their payloads, with the origins of each. So `append` and `find` cost a
@@ -33,6 +38,7 @@
 //! and stays until its client and request get a row; where they never do, it stays for good.
 #![tactic(auto)]
 
+mod closing;
 mod laws;
 mod log;
 mod origins;
@@ -40,7 +46,8 @@ mod row;
 mod rows;
 mod waiting;
 
-pub use laws::{command_rows, log_follows};
+pub use closing::{CLOSING_CLIENT, closes};
+pub use laws::{chain_rows, command_rows, log_follows};
 pub use log::Log;
 pub use row::LogRow;
 pub use rows::Rows;

@@ -1,14 +1,16 @@
-//! The log of commands: a row is entered at the (f + 1)st origin of its command, once for each client and request.
+//! The log of commands: a row is entered at the (f + 1)st origin of its command, once for each client and request. In an epoch of a
+//! chain a closing row ends it.
 
-ghost use Rattle.std.specs.Prelude.{◌≡◌, ℕ, ◌+◌, ◌<◌, ◌≤◌, ◌==◌, ◌↔◌, false, List, [], ◌∷◌, length, take, drop, Some, None, IfOk, OnOk, OnErr, if◌then◌else◌};
+ghost use Rattle.std.specs.Prelude.{◌≡◌, ℕ, ◌+◌, ◌<◌, ◌≤◌, ◌==◌, ◌↔◌, true, false, List, [], ◌∷◌, length, take, drop, Some, None, Ok, IfOk, OnOk, OnErr, if◌then◌else◌};
 ghost use Rattle.std.specs.Option.{option_copied};
 ghost use Rattle.std.specs.Int.{w32, from_be_bytes};
 ghost use Rattle.ritas_base.specs.Limits.{least_request};
 ghost use Rattle.command_log.specs.Origins.{origin_count};
-ghost use Rattle.command_log.specs.Rows.{CommandEntry, client_of, request_of, row_of, has_row, is_origin, row_at, position_of, entered, HasPlace};
+ghost use Rattle.command_log.specs.Rows.{CommandEntry, client_of, request_of, row_with, row_of, has_row, is_origin, alone, chained_on, has_ended, own_rows, row_at, position_of, entered, HasPlace};
 ghost use Rattle.command_log.specs.Index.{row_key, HaveFourBytes};
-ghost use Rattle.command_log.specs.Standing.{StandsFor, HasEntered, WaitsWith, IsEntryLost};
+ghost use Rattle.command_log.specs.Standing.{own_of, StandsFor, HasEntered, WaitsWith, IsEntryLost};
 
+use crate::closing::closes;
 use crate::origins::OriginSet;
 use crate::row::LogRow;
 use crate::rows::{Rows, key_of};
@@ -43,13 +45,20 @@ fn payload_of(command: &[u8]) -> &[u8]
 pub struct Log {
     // A command has its row from its (f + 1)st origin on.
     f: u8,
+    // Those of its base too.
     rows: Rows,
+    // How many rows its base has.
+    base_len: u32,
+    // Whether a closing row above the base ends it.
+    chained: bool,
+    // Whether one did.
+    ended: bool,
     // The origins of the commands whose client and request have no row.
     waiting: Waiting,
 }
 
 impl Model for Log {
-    ghost use Rattle.command_log.specs.Standing.{Ledger};
+    ghost use Rattle.command_log.specs.Standing.{Ledger, ledger_of, IsMarked};
     ghost use Rattle.command_log.specs.contracts.waiting.Waiting as e;
     ghost use Rattle.std.specs.Coded.{codes};
 
@@ -57,23 +66,74 @@ impl Model for Log {
 
     ghost coded = { Prim.hlevel (codes, e.the_row.coded) };
 
-    ghost view = { λ l. record { f = l.f; rows = l.rows; waiting = l.waiting } };
+    ghost view = { λ l. ledger_of l.f l.rows l.base_len l.chained l.waiting };
+
+    ghost invariant = { λ l.
+        IsMarked (ledger_of l.f l.rows l.base_len l.chained l.waiting) l.base_len l.ended };
 }
 
 impl Log {
-    /// A log without rows, which takes no memory. A command gets its row at its (f + 1)st origin.
-    pub fn new(alloc: Global, f: u8) -> Log
+    // A log that begins with these rows.
+    fn begin(alloc: Global, f: u8, rows: Rows, chained: bool) -> Log
         ensures origins { result.f ≡ f }
+        ensures start { result.start ≡ record { base = rows; chained = chained } }
         ensures stands { StandsFor result [] }
     {
         Log {
             f,
-            rows: Rows::new(alloc),
+            base_len: rows.len(),
+            chained,
+            ended: false,
+            rows,
             waiting: Waiting::new(alloc),
         }
     }
 
-    // Enters a row, whose client and request have none, and answers its position. What waited for it is let go of.
+    /// The log of a session by itself. It has no rows, and takes no memory. A command gets its row at its (f + 1)st origin.
+    pub fn new(alloc: Global, f: u8) -> Log
+        ensures origins { result.f ≡ f }
+        ensures start { result.start ≡ alone }
+        ensures stands { StandsFor result [] }
+    {
+        Log::begin(alloc, f, Rows::new(alloc), false)
+    }
+
+    /// The log of an epoch of a chain. It begins with the rows of the epochs before, which are its base, and takes no memory. A
+    /// command gets its row at its (f + 1)st origin, and no more once a closing row stands above the base.
+    pub fn over(alloc: Global, f: u8, rows: Rows) -> Log
+        ensures origins { result.f ≡ f }
+        ensures start { result.start ≡ chained_on rows }
+        ensures stands { StandsFor result [] }
+    {
+        Log::begin(alloc, f, rows, true)
+    }
+
+    /// Its rows, with those of its base: the base of the next epoch's log.
+    pub fn into_rows(self) -> Rows
+        ensures { result ≡ self.rows }
+    {
+        self.rows
+    }
+
+    /// How many rows its base has, which is the position of the first row above it.
+    pub fn base_len(&self) -> u32
+        ensures { result ≡ length self.now.start.base }
+    {
+        self.base_len
+    }
+
+    /// Whether the log is that of an epoch of a chain, and one of its rows above the base closes the epoch. Then it enters nothing
+    /// more. It takes the same time however many rows there are.
+    pub fn is_over(&self) -> bool
+        ensures exact { result ≡ has_ended self.now.start (own_of self.now) }
+        ensures stands { (es : List CommandEntry) → StandsFor self.now es
+            → result ≡ has_ended self.now.start (own_rows self.now.start self.now.f es) }
+    {
+        self.ended
+    }
+
+    // Enters a row, whose client and request have none, where the log isn't over, and answers its position. What waited for it
+    // is let go of.
     fn enter(
         &mut self,
         alloc: Global,
@@ -82,24 +142,29 @@ impl Log {
         request: u32,
         payload: &[u8],
     ) -> Result<u32, Mem>
+        requires lasts { has_ended self.old.start (own_of self.old) ≡ false }
         requires none { has_row self.old.rows client request ≡ false }
         requires room { length self.old.rows < 4294967295 }
         ensures position { IfOk result (λ position. position ≡ length self.old.rows) }
-        ensures ok { OnOk result (HasEntered self.old self.new (record { id = id; client = client; request = request; payload = payload.now })) }
+        ensures ok { let r = row_with id client request payload.now in
+            OnOk result (HasEntered self.old self.new r) }
         ensures err { OnErr result (self.new ≡ self.old) }
     {
-        let position = self.rows.enter(LogRow {
+        let row = LogRow {
             id,
             client,
             request,
             payload: Bytes::from_slice(alloc, payload)?,
-        })?;
+        };
+        let closing = closes(&row);
+        let position = self.rows.enter(row)?;
+        self.ended = self.chained && closing;
         self.waiting.remove(key_of(client, request));
         Ok(position)
     }
 
-    // A command has these origins now, whose client and request have no row. Where they are enough, its row is entered with
-    // this identifier, and the row's position is answered; and else it waits with them.
+    // A command has these origins now, whose client and request have no row, and the log isn't over. Where they are enough, its row
+    // is entered with this identifier, and the row's position is answered; and else it waits with them.
     fn settle(
         &mut self,
         alloc: Global,
@@ -109,14 +174,21 @@ impl Log {
         payload: &[u8],
         origins: OriginSet,
     ) -> Result<Option<u32>, Mem>
+        requires lasts { has_ended self.old.start (own_of self.old) ≡ false }
         requires none { has_row self.old.rows client request ≡ false }
         requires room { length self.old.rows < 4294967295 }
-        ensures many { self.old.f < origin_count origins → IfOk result (λ position. position ≡ Some (length self.old.rows))
-            × OnOk result (HasEntered self.old self.new (record { id = id; client = client; request = request; payload = payload.now })) }
-        ensures few { origin_count origins ≤ self.old.f → IfOk result (λ position. position ≡ None)
-            × OnOk result (WaitsWith self.old self.new (record { id = id; client = client; request = request; payload = payload.now }) origins) }
-        ensures err { OnErr result (IsEntryLost self.old self.new (record { id = id; client = client; request = request; payload = payload.now })) }
+        ensures many { let r = row_with id client request payload.now in
+            self.old.f < origin_count origins
+            → IfOk result (λ position. position ≡ Some (length self.old.rows))
+            × OnOk result (HasEntered self.old self.new r) }
+        ensures few { let r = row_with id client request payload.now in
+            origin_count origins ≤ self.old.f
+            → IfOk result (λ position. position ≡ None)
+            × OnOk result (WaitsWith self.old self.new r origins) }
+        ensures err { let r = row_with id client request payload.now in
+            OnErr result (IsEntryLost self.old self.new r) }
         ensures f { self.new.f ≡ self.old.f }
+        ensures start { self.new.start ≡ self.old.start }
     {
         if origins.len() > u16::from(self.f) {
             return Ok(Some(self.enter(alloc, id, client, request, payload)?));
@@ -131,20 +203,34 @@ impl Log {
     ///
     /// The command has its client's number and its request's, of four bytes each, the most significant first, and then its
     /// payload. It is confirmed as soon as it came from f + 1 different origins. `None` is answered where it isn't confirmed yet,
-    /// and where its client and request have a row. The log has at most 4,294,967,295 rows. The one error is want of memory,
-    /// after which the log is as it was; it comes only where the client and request have no row, and where the command hasn't
-    /// come from this origin before.
+    /// and where its client and request have a row, in the base too. Once the log is over, `None` is answered, and nothing
+    /// changes. The log has at most 4,294,967,295 rows. The one error is want of memory, after which the log is as it was. It
+    /// comes only where the client and request have no row, and where the command hasn't come from this origin before.
     pub fn append(&mut self, alloc: Global, id: Id, command: &[u8]) -> Result<Option<u32>, Mem>
         requires long { least_request ≤ length command.now }
         requires room { length self.old.rows < 4294967295 }
-        ensures position { (es : List CommandEntry) → StandsFor self.old es → IfOk result (λ position. position ≡ entered self.old.f (record { id = id; command = command.now }) es) }
-        ensures ok { (es : List CommandEntry) → StandsFor self.old es → OnOk result (StandsFor self.new (record { id = id; command = command.now } ∷ es)) }
-        ensures err { (es : List CommandEntry) → StandsFor self.old es → OnErr result (StandsFor self.new es) }
+        ensures position { let e : CommandEntry = record { id = id; command = command.now } in
+            (es : List CommandEntry) → StandsFor self.old es
+            → IfOk result (λ position. position ≡ entered self.old.start self.old.f e es) }
+        ensures ok { let e : CommandEntry = record { id = id; command = command.now } in
+            (es : List CommandEntry) → StandsFor self.old es
+            → OnOk result (StandsFor self.new (e ∷ es)) }
+        ensures err { (es : List CommandEntry) → StandsFor self.old es
+            → OnErr result (StandsFor self.new es) }
         ensures kept { OnErr result (self.new.rows ≡ self.old.rows) }
         ensures f { self.new.f ≡ self.old.f }
-        ensures only { OnErr result (has_row self.old.rows (client_of command.now) (request_of command.now) ≡ false) }
-        ensures first { (es : List CommandEntry) → StandsFor self.old es → OnErr result (is_origin es (row_of (record { id = id; command = command.now })) id.origin ≡ false) }
+        ensures start { self.new.start ≡ self.old.start }
+        ensures over { has_ended self.old.start (own_of self.old) ≡ true
+            → (result ≡ Ok None) × (self.new ≡ self.old) }
+        ensures only { OnErr result
+            (has_row self.old.rows (client_of command.now) (request_of command.now) ≡ false) }
+        ensures first { let e : CommandEntry = record { id = id; command = command.now } in
+            (es : List CommandEntry) → StandsFor self.old es
+            → OnErr result (is_origin es (row_of e) id.origin ≡ false) }
     {
+        if self.is_over() {
+            return Ok(None);
+        }
         let client = number(command, 0);
         let request = number(command, 4);
         if self.find(client, request).is_some() {

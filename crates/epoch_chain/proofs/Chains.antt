@@ -1,13 +1,14 @@
 -- The chains of any two nodes are prefixes of one list.
 use Rattle.std.specs.Prelude.{◌≡◌, ℕ, ◌<◌, ◌≤◌, List, [], ◌∷◌, ◌++◌, length, refl, ◌⊎◌}
-use Rattle.std.proofs.Common.{sym, ◌∙◌, ap, ap₂, subst, inl, inr, append-nil, arith}
+use Rattle.std.proofs.Common.{sym, ◌∙◌, ap, subst, inl, inr, append-nil, arith}
 use Rattle.std.proofs.lemmas.Bool.{cases_lt}
 use Rattle.layer_api.specs.Service.{IsPart}
-use Rattle.command_log.specs.Rows.{Row, AreOnce, HasRow}
-use Rattle.epoch_chain.specs.Chain.{closed_part, fresh, chain_after, chain_of}
+use Rattle.command_log.specs.Rows.{Row, AreOnce, HasRow, is_closed}
+use Rattle.command_log.specs.Fresh.{fresh, closed_part}
+use Rattle.epoch_chain.specs.Chain.{chain_after, chain_of}
 use Rattle.epoch_chain.specs.Epochs.{OneIsPart, Epochs, AreAlike, IsLog, IsKept, AreKept, IsView, IsOfEpoch}
 use Rattle.epoch_chain.proofs.Parts.{part_of_part, parts_of_two, has_in_part, has_in_two}
-use Rattle.epoch_chain.proofs.Closing.{closed_in_log, closed_of_part, closed_of_one, closed_of_both, fresh_in, fresh_once, chain_grows, chain_of_part, chain_by_closed, chain_by_fresh}
+use Rattle.epoch_chain.proofs.Closing.{gained_in, gained_of_part, gained_of_one, gained_of_both, chain_grows, chain_of_part, chain_by_gained, after_once}
 
 -- two logs of one epoch
 logs_alike : (e : Epochs) → AreAlike e → (k : ℕ) (xs ys : List Row) → IsLog e k xs → IsLog e k ys → OneIsPart xs ys
@@ -18,10 +19,9 @@ logs_alike e alike k xs ys x y =
 pub kept_after : (e : Epochs) (k : ℕ) (chain rows : List Row) → (h : IsKept e k chain rows) → chain_after chain rows ≡ chain_after chain h.log
 kept_after e k chain rows h = go h.same
   where
-    go : (rows ≡ h.log) ⊎ ((rows ≡ closed_part h.log) ⊎ (rows ≡ fresh chain (closed_part h.log))) → chain_after chain rows ≡ chain_after chain h.log
+    go : (rows ≡ h.log) ⊎ (rows ≡ closed_part (fresh chain h.log)) → chain_after chain rows ≡ chain_after chain h.log
     go (inl own) = ap (chain_after chain) own
-    go (inr (inl closed)) = ap (chain_after chain) closed ∙ chain_by_closed chain h.log
-    go (inr (inr new)) = ap (chain_after chain) new ∙ chain_by_fresh chain h.log
+    go (inr got) = ap (chain_after chain) got ∙ chain_by_gained chain h.log
 
 -- ---- two nodes that keep as many epochs
 
@@ -34,9 +34,11 @@ kept_one e alike (xs ∷ a) (ys ∷ b) x y same =
     let lengths : length b ≡ length a = omega (arith, same) in
     let before : chain_of a ≡ chain_of b = kept_one e alike a b x.1 y.1 (sym lengths) in
     let there = subst (λ (k : ℕ). IsLog e k y.0.log) lengths y.0.stands in
-    let one = closed_of_both x.0.log y.0.log (logs_alike e alike (length a) x.0.log y.0.log x.0.stands there) x.0.closed y.0.closed in
+    let closed = ap (λ (c : List Row). is_closed (fresh c y.0.log)) before ∙ y.0.closed in
+    let one = gained_of_both (chain_of a) x.0.log y.0.log (logs_alike e alike (length a) x.0.log y.0.log x.0.stands there) x.0.closed closed in
     kept_after e (length a) (chain_of a) xs x.0
-    ∙ (ap₂ (λ (c q : List Row). fresh c q ++ c) before one ∙ sym (kept_after e (length b) (chain_of b) ys y.0))
+    ∙ (ap (λ (q : List Row). q ++ chain_of a) one
+    ∙ (ap (λ (c : List Row). chain_after c y.0.log) before ∙ sym (kept_after e (length b) (chain_of b) ys y.0)))
 
 -- ---- a node's newest epoch
 
@@ -64,7 +66,8 @@ below e alike (xs ∷ a) (ys ∷ b) x y few =
           let before : chain_of a ≡ chain_of b = kept_one e alike a b x.1 y.1 (sym lengths) in
           let mine = newest e (length a) (chain_of a) xs x.0 in
           let there = subst (λ (k : ℕ). IsLog e k y.0.log) lengths y.0.stands in
-          let part = closed_of_one mine.log y.0.log (logs_alike e alike (length a) mine.log y.0.log mine.stands there) y.0.closed in
+          let closed = ap (λ (c : List Row). is_closed (fresh c y.0.log)) before ∙ y.0.closed in
+          let part = gained_of_one (chain_of a) mine.log y.0.log (logs_alike e alike (length a) mine.log y.0.log mine.stands there) closed in
           let both = chain_of_part (chain_of a) mine.log y.0.log part in (
             both.0,
             ap (λ (l : List Row). both.0 ++ l) mine.after ∙ (both.1
@@ -110,10 +113,10 @@ level e alike (xs ∷ a) (ys ∷ b) x y same = go (logs_alike e alike (length a)
 
     go : OneIsPart mine.log its.log → OneIsPart (chain_of (xs ∷ a)) (chain_of (ys ∷ b))
     go (inl part) =
-        let both = chain_of_part (chain_of a) mine.log its.log (closed_of_part mine.log its.log part) in
+        let both = chain_of_part (chain_of a) mine.log its.log (gained_of_part (chain_of a) mine.log its.log part) in
         inl (both.0, ap (λ (l : List Row). both.0 ++ l) mine.after ∙ (both.1 ∙ second))
     go (inr part) =
-        let both = chain_of_part (chain_of a) its.log mine.log (closed_of_part its.log mine.log part) in
+        let both = chain_of_part (chain_of a) its.log mine.log (gained_of_part (chain_of a) its.log mine.log part) in
         inr (both.0, ap (λ (l : List Row). both.0 ++ l) (sym second) ∙ (both.1 ∙ sym mine.after))
 
 pub chains_agree : (e : Epochs) → AreAlike e → (a b : List (List Row)) → IsView e a → IsView e b → OneIsPart (chain_of a) (chain_of b)
@@ -130,7 +133,7 @@ chains_agree e alike a b x y =
 
 pub chains_once : (logs : List (List Row)) → AreOnce (chain_of logs)
 chains_once [] = tt
-chains_once (log ∷ logs) = fresh_once (chain_of logs) (closed_part log) (chains_once logs)
+chains_once (log ∷ logs) = after_once (chain_of logs) log (chains_once logs)
 
 -- ---- each row is one of a correct replica's log
 
@@ -147,21 +150,15 @@ row_of_log e k chain rows r (inr kept) has epochs within =
       has = has_in_part kept.log (e.log k kept.stands.replica) kept.stands.part r (go kept.same);
     }
   where
-    closed : HasRow (closed_part kept.log) r → HasRow kept.log r
-    closed there = has_in_part (closed_part kept.log) kept.log (closed_in_log kept.log) r there
-
-    go : (rows ≡ kept.log) ⊎ ((rows ≡ closed_part kept.log) ⊎ (rows ≡ fresh chain (closed_part kept.log))) → HasRow kept.log r
+    go : (rows ≡ kept.log) ⊎ (rows ≡ closed_part (fresh chain kept.log)) → HasRow kept.log r
     go (inl same) = subst (λ (l : List Row). HasRow l r) same has
-    go (inr (inl same)) = closed (subst (λ (l : List Row). HasRow l r) same has)
-    go (inr (inr same)) = closed (fresh_in chain (closed_part kept.log) r (subst (λ (l : List Row). HasRow l r) same has))
+    go (inr got) = gained_in chain kept.log r (subst (λ (l : List Row). HasRow l r) got has)
 
 pub rows_are_of_epochs : (e : Epochs) (a : List (List Row)) (r : Row) → IsView e a → HasRow (chain_of a) r → IsOfEpoch e (length a) r
 rows_are_of_epochs e [] r x here = absurd here
 rows_are_of_epochs e (xs ∷ a) r x here =
-    elim (has_in_two (fresh (chain_of a) (closed_part xs)) (chain_of a) r here) [
-      | inl now ↦
-          row_of_log e (length a) (chain_of a) xs r x.0
-          (has_in_part (closed_part xs) xs (closed_in_log xs) r (fresh_in (chain_of a) (closed_part xs) r now)) (length (xs ∷ a)) (omega arith)
+    elim (has_in_two (closed_part (fresh (chain_of a) xs)) (chain_of a) r here) [
+      | inl now ↦ row_of_log e (length a) (chain_of a) xs r x.0 (gained_in (chain_of a) xs r now) (length (xs ∷ a)) (omega arith)
       | inr before ↦
           let i = rows_are_of_epochs e a r (kept_is_view e a x.1) before in
           let within = i.within in

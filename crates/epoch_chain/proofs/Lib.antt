@@ -3,4 +3,4 @@ pub mod Closing
 pub mod Chains
 pub mod Adopting
 pub mod TakingOver
-pub mod Taking
+pub mod LogChains

@@ -30,10 +30,6 @@ pub parts_of_two : {X : Type 0} (xs ys us vs : List X) → IsPart xs us → IsPa
 parts_of_two xs ys us vs first second (inl part) = parts_of_one xs ys vs (part_of_part xs us vs first part) second
 parts_of_two xs ys us vs first second (inr part) = parts_of_one xs ys us first (part_of_part ys vs us second part)
 
--- with the same list behind them
-pub part_before : {X : Type 0} (xs ys rest : List X) → IsPart xs ys → IsPart (xs ++ rest) (ys ++ rest)
-part_before xs ys rest part = (part.0, sym (append_assoc part.0 xs rest) ∙ ap (λ (l : List _). l ++ rest) part.1)
-
 -- ---- what stands in them
 
 pub has_in_part : (xs ys : List Row) → IsPart xs ys → (r : Row) → HasRow xs r → HasRow ys r

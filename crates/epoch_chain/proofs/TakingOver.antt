@@ -1,14 +1,16 @@
 -- What a node took over up to a closing row is what the chain got of the epoch.
-use Rattle.std.specs.Prelude.{◌≡◌, ℕ, ◌<◌, Bool, true, false, ◌==◌, ◌&&◌, if◌then◌else◌, List, [], ◌∷◌, ◌++◌, length, refl, ◌⊎◌}
+use Rattle.std.specs.Prelude.{◌≡◌, ℕ, ◌<◌, Bool, true, false, ◌==◌, ◌&&◌, ◌||◌, if◌then◌else◌, List, [], ◌∷◌, ◌++◌, length, refl, ◌⊎◌}
 use Rattle.std.proofs.Common.{sym, ◌∙◌, ap, ap₂, subst, inl, inr, append_assoc, arith}
 use Rattle.std.proofs.lemmas.Bool.{cases_lt, and_parts, and_from, or_cases, or_left, or_right, both_ways, eqb-true, eq-eqb}
 use Rattle.std.proofs.lemmas.List.{length-append}
 use Rattle.layer_api.specs.Service.{IsPart}
-use Rattle.command_log.specs.Rows.{Row, has_row, HasRow}
-use Rattle.epoch_chain.specs.Chain.{closing_client, closes, is_closed, closed_part, fresh, chain_after, chain_of}
-use Rattle.epoch_chain.specs.Epochs.{Epochs, IsLog, IsKept, AreKept, AreMarked, TakenOverIsKept}
+use Rattle.command_log.specs.Rows.{Row, has_row, HasRow, closing_client, closes, is_closed}
+use Rattle.command_log.specs.Fresh.{fresh, closed_part}
+use Rattle.command_log.specs.ChainLaws.{closed_part_closes, fresh_covers}
+use Rattle.epoch_chain.specs.Chain.{chain_after, chain_of}
+use Rattle.epoch_chain.specs.Epochs.{Epochs, IsLog, IsKept, AreKept, MarkedIsClosed, TakenOverIsKept}
 use Rattle.epoch_chain.proofs.Parts.{part_itself, part_of_part, parts_of_one, has_in_part}
-use Rattle.epoch_chain.proofs.Closing.{closed_in_log, closed_more, closed_equal, fresh_in, fresh_closed, chain_grows}
+use Rattle.epoch_chain.proofs.Closing.{closed_in_log, closed_more, closed_equal, closed_again, chain_grows}
 use Rattle.epoch_chain.proofs.Chains.{kept_one, kept_after, newest, below, kept_is_view, rows_are_of_epochs}
 
 -- ---- lists with the same end
@@ -46,23 +48,19 @@ closed_by [] r here is = absurd here
 closed_by (q ∷ rs) r (inl same) is = or_left (closes q) (is_closed rs) (ap closes same ∙ is)
 closed_by (q ∷ rs) r (inr there) is = or_right (closes q) (is_closed rs) (closed_by rs r there is)
 
--- a closed log's closed part has its closing row
+-- a row that closes
 record HasClosing (rs : List Row) : Type 0 where
   pub row : Row
   pub has : HasRow rs row
   pub is : closes row ≡ true
 
-closing_of : (rs : List Row) → is_closed rs ≡ true → HasClosing (closed_part rs)
+closing_of : (rs : List Row) → is_closed rs ≡ true → HasClosing rs
 closing_of [] closed = absurd (both_ways false refl closed)
-closing_of (r ∷ rs) closed = go (closing_of rs) (is_closed rs) refl
-  where
-    go : (is_closed rs ≡ true → HasClosing (closed_part rs)) → (b : Bool) → is_closed rs ≡ b → HasClosing (if b then closed_part rs else r ∷ rs)
-    go before true there = before there
-    go before false none =
-        elim (or_cases (closes r) (is_closed rs) closed) [
-          | inl is ↦ record { row = r; has = inl refl; is = is }
-          | inr there ↦ absurd (both_ways (is_closed rs) none there)
-        ]
+closing_of (r ∷ rs) closed =
+    elim (or_cases (closes r) (is_closed rs) closed) [
+      | inl is ↦ record { row = r; has = inl refl; is = is }
+      | inr there ↦ let q = closing_of rs there in record { row = q.row; has = inr q.has; is = q.is }
+    ]
 
 -- ---- what a chain has
 
@@ -95,35 +93,27 @@ request_in_two (x ∷ xs) ys client request has =
       ]
     ]
 
--- the chain has each row's request after an epoch with it
-fresh_has : (chain rs : List Row) (q : Row) → HasRow rs q → has_row (fresh chain rs ++ chain) q.client q.request ≡ true
-fresh_has chain [] q here = absurd here
-fresh_has chain (r ∷ rs) q here = go (fresh_has chain rs q) here (has_row (fresh chain rs ++ chain) r.client r.request) refl
-  where
-    go : (HasRow rs q → has_row (fresh chain rs ++ chain) q.client q.request ≡ true) → (r ≡ q) ⊎ HasRow rs q
-        → (b : Bool) → has_row (fresh chain rs ++ chain) r.client r.request ≡ b
-        → has_row ((if b then fresh chain rs else r ∷ fresh chain rs) ++ chain) q.client q.request ≡ true
-    go before (inl same) true had = ap (λ (x : Row). has_row (fresh chain rs ++ chain) x.client x.request) (sym same) ∙ had
-    go before (inl same) false none =
-        ap (λ (x : Row). has_row (r ∷ fresh chain rs ++ chain) x.client x.request) (sym same)
-        ∙ or_left (r.client == r.client && r.request == r.request) (has_row (fresh chain rs ++ chain) r.client r.request)
-        (and_from (r.client == r.client) (r.request == r.request) (eq-eqb _ _ refl) (eq-eqb _ _ refl))
-    go before (inr there) true had = before there
-    go before (inr there) false none =
-        or_right (r.client == q.client && r.request == q.request) (has_row (fresh chain rs ++ chain) q.client q.request) (before there)
+-- a row's own client and request have one
+has_its_row : (rs : List Row) (q : Row) → HasRow rs q → has_row rs q.client q.request ≡ true
+has_its_row [] q here = absurd here
+has_its_row (r ∷ rs) q (inl same) =
+    ap (λ (x : Row). has_row (r ∷ rs) x.client x.request) (sym same)
+    ∙ or_left (r.client == r.client && r.request == r.request) (has_row rs r.client r.request)
+    (and_from (r.client == r.client) (r.request == r.request) (eq-eqb _ _ refl) (eq-eqb _ _ refl))
+has_its_row (r ∷ rs) q (inr there) = or_right (r.client == q.client && r.request == q.request) (has_row rs q.client q.request) (has_its_row rs q there)
 
--- an epoch that is closed gives its closing row to the chain
-fresh_is_closed : (e : Epochs) → AreMarked e → (earlier : List (List Row)) (log : List Row) → AreKept e earlier → IsLog e (length earlier) log
-    → is_closed log ≡ true → is_closed (fresh (chain_of earlier) (closed_part log)) ≡ true
-fresh_is_closed e marked earlier log kept stands closed = go (request_in_two new chain q.row.client q.row.request (fresh_has chain (closed_part log) q.row q.has))
+-- where closing rows have the numbers of their epochs, a log with one gives the chain one
+pub marked_is_closed : MarkedIsClosed
+marked_is_closed e marked log earlier stands kept closed =
+    go (request_in_two new chain q.row.client q.row.request (fresh_covers chain log q.row.client q.row.request (has_its_row log q.row q.has)))
   where
     chain : List Row
     chain = chain_of earlier
 
     new : List Row
-    new = fresh (chain_of earlier) (closed_part log)
+    new = fresh (chain_of earlier) log
 
-    q : HasClosing (closed_part log)
+    q : HasClosing log
     q = closing_of log closed
 
     go : (has_row new q.row.client q.row.request ≡ true) ⊎ (has_row chain q.row.client q.row.request ≡ true) → is_closed new ≡ true
@@ -131,7 +121,7 @@ fresh_is_closed e marked earlier log kept stands closed = go (request_in_two new
     go (inr before) =
         let p = request_in chain q.row.client q.row.request before in
         let i = rows_are_of_epochs e earlier p.row (kept_is_view e earlier kept) p.has in
-        let in_log = has_in_part log (e.log (length earlier) stands.replica) stands.part q.row (has_in_part (closed_part log) log (closed_in_log log) q.row q.has) in
+        let in_log = has_in_part log (e.log (length earlier) stands.replica) stands.part q.row q.has in
         let here = marked (length earlier) stands.replica q.row stands.correct in_log q.is in
         let there = marked i.epoch i.replica p.row i.correct i.has (ap (λ (c : ℕ). c == closing_client) p.of_client ∙ q.is) in
         let same = p.of_request in
@@ -168,19 +158,19 @@ kept_at e (ys ∷ b) k x within =
 
 -- ---- what was taken over
 
--- rows that close, and of which a log's fresh rows have all, are these
+-- rows that close, and are a part of what the chain got of a log, are all of that
 taken : (e : Epochs) (k : ℕ) (chain log : List Row) (r : Row) (rows : List Row) → IsLog e k log → closes r ≡ true → is_closed rows ≡ false
-    → IsPart (r ∷ rows) (fresh chain (closed_part log)) → IsKept e k chain (r ∷ rows)
+    → IsPart (r ∷ rows) (closed_part (fresh chain log)) → IsKept e k chain (r ∷ rows)
 taken e k chain log r rows stands is none part =
     let closed : is_closed (r ∷ rows) ≡ true = or_left (closes r) (is_closed rows) is in
     let whole : closed_part (r ∷ rows) ≡ r ∷ rows = ap (λ (b : Bool). if b then closed_part rows else r ∷ rows) none in
-    let same = sym whole ∙ (sym (closed_equal (r ∷ rows) (fresh chain (closed_part log)) part closed) ∙ fresh_closed chain log) in
-    let here : HasRow (fresh chain (closed_part log)) r = has_in_part (r ∷ rows) (fresh chain (closed_part log)) part r (inl refl) in
+    let same = sym whole ∙ (sym (closed_equal (r ∷ rows) (closed_part (fresh chain log)) part closed) ∙ closed_again (fresh chain log)) in
+    let here = has_in_part (r ∷ rows) (closed_part (fresh chain log)) part r (inl refl) in
     record {
       log = log;
       stands = stands;
-      closed = closed_by log r (has_in_part (closed_part log) log (closed_in_log log) r (fresh_in chain (closed_part log) r here)) is;
-      same = inr (inr same);
+      closed = closed_by (fresh chain log) r (has_in_part (closed_part (fresh chain log)) (fresh chain log) (closed_in_log (fresh chain log)) r here) is;
+      same = inr same;
     }
 
 -- rows of which the first closes, with others behind them that are closed, close twice
@@ -194,9 +184,9 @@ twice r rows new none closed part = go part.0 part.1
         absurd (both_ways (is_closed rows) none (ap is_closed (sym tail) ∙ closed_more more new closed))
 
 pub taken_over_is_kept : TakenOverIsKept
-taken_over_is_kept e alike marked [] earlier r rows view kept is none part =
+taken_over_is_kept e alike [] earlier r rows view kept is none part =
     absurd (no_part r rows (chain_of earlier) (part_of_part (r ∷ rows ++ chain_of earlier) [] (chain_of earlier) part (below e alike [] earlier view kept (omega arith))))
-taken_over_is_kept e alike marked (ys ∷ b) earlier r rows view kept is none part =
+taken_over_is_kept e alike (ys ∷ b) earlier r rows view kept is none part =
     elim (cases_lt (length earlier) (length b)) [
       | inl deeper ↦
           let i = kept_at e b (length earlier) view.1 deeper in
@@ -204,14 +194,16 @@ taken_over_is_kept e alike marked (ys ∷ b) earlier r rows view kept is none pa
           let stands = subst (λ (k : ℕ). IsLog e k i.kept.log) i.lengths i.kept.stands in
           let after : chain_of (i.rows ∷ i.older) ≡ chain_after (chain_of earlier) i.kept.log =
           kept_after e (length i.older) (chain_of i.older) i.rows i.kept ∙ ap (λ (c : List Row). chain_after c i.kept.log) before in
-          let new : List Row = fresh (chain_of earlier) (closed_part i.kept.log) in
+          let new : List Row = closed_part (fresh (chain_of earlier) i.kept.log) in
+          let closed = closed_part_closes (fresh (chain_of earlier) i.kept.log)
+          ∙ (ap (λ (c : List Row). is_closed (fresh c i.kept.log)) (sym before) ∙ i.kept.closed) in
           let its : IsPart (new ++ chain_of earlier) (chain_of (ys ∷ b)) =
           subst (λ (l : List Row). IsPart l (chain_of (ys ∷ b))) after (part_of_part (chain_of (i.rows ∷ i.older)) (chain_of b) (chain_of (ys ∷ b)) i.part (chain_grows (chain_of b) ys)) in
           elim (parts_of_one (r ∷ rows ++ chain_of earlier) (new ++ chain_of earlier) (chain_of (ys ∷ b)) part its) [
             | inl mine ↦ taken e (length earlier) (chain_of earlier) i.kept.log r rows stands is none (part_of_front (r ∷ rows) new (chain_of earlier) mine)
             | inr other ↦
                 taken e (length earlier) (chain_of earlier) i.kept.log r rows stands is none
-                (twice r rows new none (fresh_is_closed e marked earlier i.kept.log kept stands i.kept.closed) (part_of_front new (r ∷ rows) (chain_of earlier) other))
+                (twice r rows new none closed (part_of_front new (r ∷ rows) (chain_of earlier) other))
           ]
       | inr few ↦ elim (cases_lt (length b) (length earlier)) [
         | inl fewer ↦
@@ -224,7 +216,7 @@ taken_over_is_kept e alike marked (ys ∷ b) earlier r rows view kept is none pa
             let stands = subst (λ (k : ℕ). IsLog e k mine.log) lengths mine.stands in
             let after : chain_of (ys ∷ b) ≡ chain_after (chain_of earlier) mine.log = mine.after ∙ ap (λ (c : List Row). chain_after c mine.log) before in
             taken e (length earlier) (chain_of earlier) mine.log r rows stands is none
-            (part_of_front (r ∷ rows) (fresh (chain_of earlier) (closed_part mine.log)) (chain_of earlier)
+            (part_of_front (r ∷ rows) (closed_part (fresh (chain_of earlier) mine.log)) (chain_of earlier)
             (subst (λ (l : List Row). IsPart (r ∷ rows ++ chain_of earlier) l) after part))
       ]
     ]

@@ -2,8 +2,9 @@
 use Rattle.std.specs.Prelude.{◌++◌, false, ◌≡◌, ℕ, ◌<◌, ◌≤◌, ◌-◌, Bool, true, List, [], ◌∷◌, length, count_by, Some, ◌⊎◌}
 use Rattle.ritas_base.specs.History.{replicas}
 use Rattle.layer_api.specs.Service.{IsPart}
-use Rattle.command_log.specs.Rows.{Row, row_at, AreOnce, HasRow}
-use Rattle.epoch_chain.specs.Chain.{closes, is_closed, closed_part, fresh, chain_of}
+use Rattle.command_log.specs.Rows.{CommandEntry, Row, closes, is_closed, chained_on, has_ended, own_rows, rows_over, rows_of, row_at, AreOnce, HasRow}
+use Rattle.command_log.specs.Fresh.{fresh, closed_part}
+use Rattle.epoch_chain.specs.Chain.{chain_of}
 
 -- of two lists one is a prefix of the other
 abbrev pub OneIsPart : {X : Type 0} → List X → List X → Type 0
@@ -24,13 +25,13 @@ pub record IsLog (e : Epochs) (k : ℕ) (rows : List Row) : Type 0 where
   pub correct : e.is_correct k replica ≡ true
   pub part : IsPart rows (e.log k replica)
 
--- what a node keeps of an epoch that is closed: its own log, or the closed part of some correct replica's, or what the chain got of
--- that; the chain is that of the epochs before
+-- what a node keeps of an epoch that is closed, one of whose rows is fresh and closes: a correct replica's log, or what the chain got
+-- of it; the chain is that of the epochs before
 pub record IsKept (e : Epochs) (k : ℕ) (chain rows : List Row) : Type 0 where
   pub log : List Row
   pub stands : IsLog e k log
-  pub closed : is_closed log ≡ true
-  pub same : (rows ≡ log) ⊎ ((rows ≡ closed_part log) ⊎ (rows ≡ fresh chain (closed_part log)))
+  pub closed : is_closed (fresh chain log) ≡ true
+  pub same : (rows ≡ log) ⊎ (rows ≡ closed_part (fresh chain log))
 
 abbrev pub AreKept : Epochs → List (List Row) → Type 0
 AreKept e [] = Unit {0}
@@ -62,6 +63,26 @@ pub record IsOfEpoch (e : Epochs) (epochs : ℕ) (r : Row) : Type 0 where
 abbrev pub RowsAreOfEpochs : Type 0
 RowsAreOfEpochs = (e : Epochs) (a : List (List Row)) (r : Row) → IsView e a → HasRow (chain_of a) r → IsOfEpoch e (length a) r
 
+-- a replica closes epoch k with the request number k and no other, so that closing rows of two epochs are two requests
+abbrev pub AreMarked : Epochs → Type 0
+AreMarked e = (k i : ℕ) (r : Row) → e.is_correct k i ≡ true → HasRow (e.log k i) r → closes r ≡ true → r.request ≡ k
+
+-- then a closing row of a correct replica's log is fresh, so that it closes its epoch
+abbrev pub MarkedIsClosed : Type 0
+MarkedIsClosed = (e : Epochs) → AreMarked e → (log : List Row) (earlier : List (List Row)) → IsLog e (length earlier) log → AreKept e earlier
+    → is_closed log ≡ true → is_closed (fresh (chain_of earlier) log) ≡ true
+
+-- ---- a log over the chain of the epochs before
+
+-- is the chain with its epoch, of which the log of a session by itself has the rows
+abbrev pub LogIsChain : Type 0
+LogIsChain = (earlier : List (List Row)) (f : ℕ) (es : List CommandEntry) → rows_over (chained_on (chain_of earlier)) f es ≡ chain_of (rows_of f es ∷ earlier)
+
+-- and is over exactly where that closes the epoch
+abbrev pub OverIsClosed : Type 0
+OverIsClosed = (earlier : List (List Row)) (f : ℕ) (es : List CommandEntry) → let s = chained_on (chain_of earlier) in
+    has_ended s (own_rows s f es) ≡ is_closed (fresh (chain_of earlier) (rows_of f es))
+
 -- ---- rows that are taken over
 
 -- of n replicas at least n - f are correct, and their chains are prefixes of one, the longest; each correct one that gave the row at the position
@@ -81,13 +102,9 @@ abbrev pub AdoptedIsPart : Type 0
 AdoptedIsPart = (n f : ℕ) (is_correct : ℕ → Bool) (chain : ℕ → List Row) (longest own : List Row) (gave : ℕ → Bool) (r : Row)
     → AreGivers n f is_correct chain longest gave (length own) r → f < count_by gave (replicas n) → IsPart own longest → IsPart (r ∷ own) longest
 
--- a replica closes epoch k with the request number k and no other, so that closing rows of two epochs are two requests
-abbrev pub AreMarked : Epochs → Type 0
-AreMarked e = (k i : ℕ) (r : Row) → e.is_correct k i ≡ true → HasRow (e.log k i) r → closes r ≡ true → r.request ≡ k
-
 -- of a node that keeps the epochs before, and whose chain with these rows is a part of some chain: where the newest of them closes, and no other does,
 -- they are what the chain got of the epoch, and the node keeps it
 abbrev pub TakenOverIsKept : Type 0
-TakenOverIsKept = (e : Epochs) → AreAlike e → AreMarked e → (longest earlier : List (List Row)) (r : Row) (rows : List Row)
+TakenOverIsKept = (e : Epochs) → AreAlike e → (longest earlier : List (List Row)) (r : Row) (rows : List Row)
     → IsView e longest → AreKept e earlier → closes r ≡ true → is_closed rows ≡ false → IsPart (r ∷ rows ++ chain_of earlier) (chain_of longest)
     → IsKept e (length earlier) (chain_of earlier) (r ∷ rows)

@@ -1,4 +1,3 @@
 pub mod Chain
 pub mod Epochs
-pub mod Standing
 pub mod Rows

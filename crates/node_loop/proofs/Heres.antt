@@ -13,7 +13,7 @@ use Rattle.ritas_core.specs.declared.answer.Answer.{Answer}
 use Rattle.ritas_core.specs.declared.fault.CoreFault.TheVariants as faults
 use Rattle.ritas_core.specs.Machine.{CoreState}
 use Rattle.ritas_core.specs.Rules.{Rules}
-use Rattle.command_log.specs.Rows.{Row}
+use Rattle.command_log.specs.Rows.{Row, Start}
 use Rattle.replica.specs.CommandRows.{history_rows as replica_rows}
 use Rattle.ritas_core.specs.Stands.{Meaning}
 use Rattle.replica.specs.Out.{OutFrame}
@@ -50,12 +50,12 @@ nowhere m w es numbers here place at stand number past =
 -- the replica that was called
 new_replica : {S E C : Type 0} (m : Meaning S E C KeyRow) (w : Setting) (es : List Event) (numbers : List ℕ) (here : List (Replica S E C)) (at : ℕ) (old new : Replica S E C) (e : Event)
     → AreHere m w es numbers here → IsReplica m w (states_of w es) at old → IsAlone at e
-    → ReplicaStands m new (rules_at w at) (w.keys at) (done_by w es at e).state → IsReplica m w (states_of w (e ∷ es)) at new
+    → ReplicaStands w.start m new (rules_at w at) (w.keys at) (done_by w es at e).state → IsReplica m w (states_of w (e ∷ es)) at new
 new_replica m w es numbers here at old new e stand is alone stands =
     let same = alone_state w es at e stand.going is.correct alone in
     record {
       correct = is.correct;
-      stands = let P : CoreState → Type 0 = λ st. ReplicaStands m new (rules_at w at) (w.keys at) st in subst P (sym same) stands;
+      stands = let P : CoreState → Type 0 = λ st. ReplicaStands w.start m new (rules_at w at) (w.keys at) st in subst P (sym same) stands;
       live = ap (λ (st : CoreState). st.live) same ∙ handled_live (rules_at w at) (w.keys at) (states_of w es at) (call_in e) is.live;
     }
 
@@ -66,13 +66,13 @@ other_replica m w es numbers here at j rep e stand right alone other is =
     let same = other_state w es at e stand.going right alone j other in
     record {
       correct = is.correct;
-      stands = let P : CoreState → Type 0 = λ st. ReplicaStands m rep (rules_at w j) (w.keys j) st in subst P (sym same) is.stands;
+      stands = let P : CoreState → Type 0 = λ st. ReplicaStands w.start m rep (rules_at w j) (w.keys j) st in subst P (sym same) is.stands;
       live = ap (λ (st : CoreState). st.live) same ∙ is.live;
     }
 
 called_here : {S E C : Type 0} (m : Meaning S E C KeyRow) (w : Setting) (es : List Event) (numbers : List ℕ) (here : List (Replica S E C)) (place at : ℕ) (old new : Replica S E C) (e : Event)
     → AreHere m w es numbers here → slice_get numbers place ≡ Some at → slice_get here place ≡ Some old → IsAlone at e
-    → ReplicaStands m new (rules_at w at) (w.keys at) (done_by w es at e).state → AreHere m w (e ∷ es) numbers (slice_set here place new)
+    → ReplicaStands w.start m new (rules_at w at) (w.keys at) (done_by w es at e).state → AreHere m w (e ∷ es) numbers (slice_set here place new)
 called_here {S = S} {E = E} {C = C} m w es numbers here place at old new e stand number there alone stands =
     let is : IsReplica m w (states_of w es) at old = stand.each place at old number there in
     let now : IsReplica m w (states_of w (e ∷ es)) at new = new_replica m w es numbers here at old new e stand is alone stands in
@@ -119,7 +119,7 @@ on_any P (Err mem) is = tt
 answered : {S E C : Type 0} (m : Meaning S E C KeyRow) (w : Setting) (es : List Event) (numbers : List ℕ) (here : List (Replica S E C)) (place at : ℕ) (old new : Replica S E C) (e : Event)
     (before after : List OutFrame) (answer : Result Answer Refusal) (result : Result (Result Answer Refusal) Mem)
     → AreHere m w es numbers here → slice_get numbers place ≡ Some at → slice_get here place ≡ Some old → IsAlone at e
-    → Handles (ReplicaStands m) new (call_in e) before after answer (rules_at w at) (w.keys at) (states_of w es at)
+    → Handles (ReplicaStands w.start m) new (call_in e) before after answer (rules_at w at) (w.keys at) (states_of w es at)
     → OnOk result (Given m w es numbers (slice_set here place new) at e before after)
 answered m w es numbers here place at old new e before after answer result stand number there alone did =
     let is : IsReplica m w (states_of w es) at old = stand.each place at old number there in
@@ -133,7 +133,7 @@ answered m w es numbers here place at old new e before after answer result stand
 pub given : {S E C : Type 0} (m : Meaning S E C KeyRow) (w : Setting) (es : List Event) (numbers : List ℕ) (here : List (Replica S E C)) (place at : ℕ) (old new : Replica S E C) (e : Event)
     (before after : List OutFrame) (answer : Result Answer Refusal) (result : Result (Result Answer Refusal) Mem)
     → AreHere m w es numbers here → slice_get numbers place ≡ Some at → slice_get here place ≡ Some old → IsAlone at e
-    → ReplicaDoesAll (ReplicaStands m) old new (call_in e) before after answer → TellsWant answer result
+    → ReplicaDoesAll (ReplicaStands w.start m) old new (call_in e) before after answer → TellsWant answer result
     → OnOk result (Given m w es numbers (slice_set here place new) at e before after)
 given m w es numbers here place at old new e before after (Err (refusals.Core faults.Mem)) result stand number there alone does saw =
     wants (Given m w es numbers (slice_set here place new) at e before after) (Err (refusals.Core faults.Mem)) result refl saw
@@ -146,7 +146,7 @@ given m w es numbers here place at old new e before after answer result stand nu
 seen_so : {S E C : Type 0} (m : Meaning S E C KeyRow) (w : Setting) (es : List Event) (at : ℕ) (new : Replica S E C) (e : Event)
     (before after : List OutFrame) (answer : Result Answer Refusal) (result : Result (Result Answer Refusal) Mem)
     → seen_of w es e ≡ seen_answer (done_by w es at e).answer
-    → Handles (ReplicaStands m) new (call_in e) before after answer (rules_at w at) (w.keys at) (states_of w es at)
+    → Handles (ReplicaStands w.start m) new (call_in e) before after answer (rules_at w at) (w.keys at) (states_of w es at)
     → TellsWant answer result → IfOk result (λ told. seen_answer told ≡ seen_of w es e)
 seen_so m w es at new e before after answer (Ok told) seen did saw = ap seen_answer (saw.0 ∙ did.answer) ∙ sym seen
 seen_so m w es at new e before after answer (Err mem) seen did saw = tt
@@ -155,7 +155,7 @@ seen_so m w es at new e before after answer (Err mem) seen did saw = tt
 pub tells : {S E C : Type 0} (m : Meaning S E C KeyRow) (w : Setting) (es : List Event) (numbers : List ℕ) (here : List (Replica S E C)) (place at : ℕ) (old new : Replica S E C) (e : Event)
     (before after : List OutFrame) (answer : Result Answer Refusal) (result : Result (Result Answer Refusal) Mem)
     → AreHere m w es numbers here → slice_get numbers place ≡ Some at → slice_get here place ≡ Some old → IsAlone at e
-    → ReplicaDoesAll (ReplicaStands m) old new (call_in e) before after answer → TellsWant answer result
+    → ReplicaDoesAll (ReplicaStands w.start m) old new (call_in e) before after answer → TellsWant answer result
     → IfOk result (λ told. seen_answer told ≡ seen_of w es e)
 tells m w es numbers here place at old new e before after (Err (refusals.Core faults.Mem)) result stand number there alone does saw =
     wants_none (λ told. seen_answer told ≡ seen_of w es e) (Err (refusals.Core faults.Mem)) result refl saw
@@ -170,10 +170,10 @@ tells m w es numbers here place at old new e before after answer result stand nu
 is_there : {X : Type 0} (xs : List X) (place : ℕ) (x : X) → place < length xs → x ≡ slice_index_or xs place x → slice_get xs place ≡ Some x
 is_there xs place x within is = slice_get-get_or xs place x within ∙ ap (λ y. Some y) (sym is)
 
-does_so : {S E C : Type 0} (m : Meaning S E C KeyRow) (old new : Replica S E C) (e : Event) (call : ReplicaCall) (before after : List OutFrame) (answer : Result Answer Refusal)
-    → call ≡ call_in e → ReplicaDoesAll (ReplicaStands m) old new call before after answer → ReplicaDoesAll (ReplicaStands m) old new (call_in e) before after answer
-does_so m old new e call before after answer is does =
-    let P : ReplicaCall → Type 0 = λ x. ReplicaDoesAll (ReplicaStands m) old new x before after answer in subst P is does
+does_so : {S E C : Type 0} (s : Start) (m : Meaning S E C KeyRow) (old new : Replica S E C) (e : Event) (call : ReplicaCall) (before after : List OutFrame) (answer : Result Answer Refusal)
+    → call ≡ call_in e → ReplicaDoesAll (ReplicaStands s m) old new call before after answer → ReplicaDoesAll (ReplicaStands s m) old new (call_in e) before after answer
+does_so s m old new e call before after answer is does =
+    let P : ReplicaCall → Type 0 = λ x. ReplicaDoesAll (ReplicaStands s m) old new x before after answer in subst P is does
 
 told_so : (answer said : Result Answer Refusal) (result : Result (Result Answer Refusal) Mem) → said ≡ answer → TellsWant said result → TellsWant answer result
 told_so answer said result is saw = let P : Result Answer Refusal → Type 0 = λ x. TellsWant x result in subst P is saw
@@ -181,23 +181,23 @@ told_so answer said result is saw = let P : Result Answer Refusal → Type 0 = �
 pub gave : {S E C : Type 0} (m : Meaning S E C KeyRow) (w : Setting) (es : List Event) (numbers : List ℕ) (here now : List (Replica S E C)) (place at : ℕ) (old new : Replica S E C) (e : Event) (call : ReplicaCall)
     (before after out : List OutFrame) (answer said : Result Answer Refusal) (result : Result (Result Answer Refusal) Mem)
     → AreHere m w es numbers here → slice_get numbers place ≡ Some at → place < length here → old ≡ slice_index_or here place old → IsAlone at e → call ≡ call_in e
-    → ReplicaDoesAll (ReplicaStands m) old new call before after answer → TellsWant said result → said ≡ answer → now ≡ slice_set here place new → out ≡ after
+    → ReplicaDoesAll (ReplicaStands w.start m) old new call before after answer → TellsWant said result → said ≡ answer → now ≡ slice_set here place new → out ≡ after
     → OnOk result (Given m w es numbers now at e before out)
 gave {S = S} {E = E} {C = C} m w es numbers here now place at old new e call before after out answer said result stand number within is alone calls does saw same now_is out_is =
     let P : List (Replica S E C) → Type 0 = λ x. OnOk result (Given m w es numbers x at e before out) in
     let Q : List OutFrame → Type 0 = λ x. OnOk result (Given m w es numbers (slice_set here place new) at e before x) in
     subst P (sym now_is) (subst Q (sym out_is)
     (given m w es numbers here place at old new e before after answer result stand number (is_there here place old within is) alone
-    (does_so m old new e call before after answer calls does) (told_so answer said result same saw)))
+    (does_so w.start m old new e call before after answer calls does) (told_so answer said result same saw)))
 
 pub answers : {S E C : Type 0} (m : Meaning S E C KeyRow) (w : Setting) (es : List Event) (numbers : List ℕ) (here : List (Replica S E C)) (place at : ℕ) (old new : Replica S E C) (e : Event) (call : ReplicaCall)
     (before after : List OutFrame) (answer said : Result Answer Refusal) (result : Result (Result Answer Refusal) Mem)
     → AreHere m w es numbers here → slice_get numbers place ≡ Some at → place < length here → old ≡ slice_index_or here place old → IsAlone at e → call ≡ call_in e
-    → ReplicaDoesAll (ReplicaStands m) old new call before after answer → TellsWant said result → said ≡ answer
+    → ReplicaDoesAll (ReplicaStands w.start m) old new call before after answer → TellsWant said result → said ≡ answer
     → IfOk result (λ told. seen_answer told ≡ seen_of w es e)
 answers m w es numbers here place at old new e call before after answer said result stand number within is alone calls does saw same =
     tells m w es numbers here place at old new e before after answer result stand number (is_there here place old within is) alone
-    (does_so m old new e call before after answer calls does) (told_so answer said result same saw)
+    (does_so w.start m old new e call before after answer calls does) (told_so answer said result same saw)
 
 -- ---- what is read of a replica
 
@@ -214,5 +214,5 @@ read_at m w es numbers here xs place at rep stand same number within is =
 -- its log has the rows of its history
 pub log_at : {S E C : Type 0} (m : Meaning S E C KeyRow) (w : Setting) (es : List Event) (at : ℕ) (rep : Replica S E C) (log : List Row)
     → IsReplica m w (states_of w es) at rep
-    → ((r : Rules) (k : KeyRow) (st : CoreState) → ReplicaStands m rep r k st → st.live ≡ true → log ≡ replica_rows r st.history) → log ≡ rows_at w es at
+    → ((r : Rules) (k : KeyRow) (st : CoreState) → ReplicaStands w.start m rep r k st → st.live ≡ true → log ≡ replica_rows w.start r st.history) → log ≡ rows_at w es at
 log_at m w es at rep log is shows = shows (rules_at w at) (w.keys at) (states_of w es at) is.stands is.live

@@ -17,7 +17,8 @@ use Rattle.world_model.specs.World.{Setting}
 use Rattle.world_model.specs.EveryWorld.{IsWorld, LogsGrow}
 use Rattle.world_model.specs.Agree.{rows_at}
 use Rattle.world_model.specs.RowsFit.{RowsAreOfCommands, RowsFit}
-use Rattle.node_loop.specs.PieceLaws.{IsPieceRead}
+use Rattle.replica.specs.CommandRows.{most_base}
+use Rattle.node_loop.specs.PieceLaws.{IsPieceRead, HasSoundBase}
 use Rattle.node_loop.specs.Queries.{RoundFits, RoundsFit, QueriesFit}
 use Rattle.node_loop.specs.Serving.{Serving, so_far, Round}
 use Rattle.node_loop.specs.Told.{after_groups, told_from}
@@ -80,8 +81,9 @@ all_within n (suc most) room (x ∷ xs) each =
 
 -- ---- a piece of a log
 
-is_piece : (n : ℕ) (log : List Row) (position : ℕ) → RowsAreOfCommands n log → HaveFourBytes log → position < 4294967296 → IsPiece n (piece_of_log log position)
-is_piece n log position of_commands four small =
+is_piece : (n base_len : ℕ) (log : List Row) (position : ℕ) → base_len ≤ most_base → RowsAreOfCommands n base_len log → HaveFourBytes log → position < 4294967296
+    → IsPiece n (piece_of_log log position)
+is_piece n base_len log position room of_commands four small =
     let xs = drop position (reverse log) in
     let rows = is_within most_rows (longest_log_piece - piece_front) xs in
     let few = rows.few in
@@ -93,7 +95,7 @@ is_piece n log position of_commands four small =
     record {
       position = small;
       few = few;
-      below = omega (arith, small, long, many, behind, whole);
+      below = omega (arith, small, long, many, room, behind, whole);
       rows = all_within n most_rows (longest_log_piece - piece_front) xs (λ r here.
           let there = has_reversed log r (has_behind position (reverse log) r here) in
           let of = of_commands.each r there in
@@ -104,13 +106,13 @@ is_piece n log position of_commands four small =
 -- ---- the replies
 
 module _ (service : ServiceRules) (other : BroadcastRules) (grow : LogsGrow service other) (fit : RowsFit service other) (of_log : PieceIsOfLog) (read : PieceIsRead)
-    (w : Setting) (world : IsWorld service other w) where
+    (w : Setting) (world : IsWorld service other w) (base : HasSoundBase w) where
   piece_read : (es : List Event) (at to position : ℕ) → w.is_correct at ≡ true → (position < 4294967296) × HaveFourBytes (rows_at w es at)
       → IsPieceRead w es (record { at = at; to = to; bytes = piece_bytes (piece_of_log (rows_at w es at) position) })
   piece_read es at to position correct fits = λ form.
       let log = rows_at w es at in
       let p = piece_of_log log position in
-      let reads = read w.numbers.n (piece_bytes p) p (record { piece = is_piece w.numbers.n log position (fit w es at world correct) fits.1 fits.0; text = refl }) in
+      let reads = read w.numbers.n (piece_bytes p) p (record { piece = is_piece w.numbers.n (length w.start.base) log position base.room (fit w es at world correct base.rows) fits.1 fits.0; text = refl }) in
       (reads.0, record { moment = log; earlier = ([], refl); rows = subst (λ (q : Piece). IsOfLog log q) (sym reads.1) (of_log log position) })
 
   read_ones : HoldsOfReplies w (RoundFits w) (IsPieceRead w)
@@ -140,4 +142,4 @@ module _ (service : ServiceRules) (other : BroadcastRules) (grow : LogsGrow serv
 
   pub pieces_of_logs : (past : List Event) (start : Serving) (groups : List (List Round)) → QueriesFit w past start groups
       → AllByRecursion (IsPieceRead w (so_far past (after_groups w past start groups))) (replies_in (told_from w past start groups))
-  pieces_of_logs past start groups fits = replies_hold w (RoundFits w) (IsPieceRead w) read_ones past start groups (fit_groups past start groups fits)
+  pieces_of_logs past start groups fits = replies_hold w base.once (RoundFits w) (IsPieceRead w) read_ones past start groups (fit_groups past start groups fits)

@@ -11,7 +11,7 @@ use Rattle.outside.specs.declared.link.LinkItem.TheVariants as items
 use Rattle.outside.specs.declared.link.Sent.{Sent}
 use Rattle.outside.specs.Links.{LinkAct, Starts, Gives, GivesNow, Sends, Replies, replies_in}
 use Rattle.client_port.specs.Messages.{Request, request_in, query_in, position_reply, refusal_reply}
-use Rattle.command_log.specs.Rows.{Row, position_of}
+use Rattle.command_log.specs.Rows.{Row, AreOnce, position_of}
 use Rattle.command_log.specs.Pieces.{piece_bytes, piece_of_log}
 use Rattle.layer_api.specs.Service.{IsPart}
 use Rattle.world_model.specs.World.{Setting, seen_of}
@@ -140,7 +140,7 @@ abbrev pub AreAllSuch : Setting → (List Event → Round → Type 0) → List E
 AreAllSuch w F past start [] = Unit {0}
 AreAllSuch w F past start (group ∷ older) = AreSuch w F past (after_groups w past start older) group × AreAllSuch w F past start older
 
-module _ (w : Setting) (F : List Event → Round → Type 0) (P : List Event → Sent → Type 0) (holds : HoldsOfReplies w F P) where
+module _ (w : Setting) (once : AreOnce w.start.base) (F : List Event → Round → Type 0) (P : List Event → Sent → Type 0) (holds : HoldsOfReplies w F P) where
   abbrev AllHold : List Event → List Sent → Type 0
   AllHold es xs = AllByRecursion (P es) xs
 
@@ -172,7 +172,7 @@ module _ (w : Setting) (F : List Event → Round → Type 0) (P : List Event →
           all_append (P es) (replies_by at count rows ws) (reply_each at (position_reply row.client row.request (length rows)) (waiting_left_by at count rows ws (asked_by at row)))
           below
           (each_holds es at row.client row.request (length rows)
-          (position_in_part (row ∷ rows) (rows_at w es at) part (rows_are_once w es at) row.client row.request (length rows) (row_stands row rows))
+          (position_in_part (row ∷ rows) (rows_at w es at) part (rows_are_once w once es at) row.client row.request (length rows) (row_stands row rows))
           (waiting_left_by at count rows ws (asked_by at row)))
 
   -- ---- outcomes

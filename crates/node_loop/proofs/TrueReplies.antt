@@ -4,6 +4,7 @@ use Rattle.std.specs.List.{AllByRecursion}
 use Rattle.ritas_base.specs.declared.event.Event.{Event}
 use Rattle.outside.specs.Links.{replies_in}
 use Rattle.layer_api.specs.Service.{IsPart}
+use Rattle.command_log.specs.Rows.{AreOnce}
 use Rattle.world_model.specs.World.{Setting}
 use Rattle.world_model.specs.Agree.{rows_at}
 use Rattle.node_loop.specs.Serving.{Serving, so_far, Round}
@@ -16,7 +17,7 @@ use Rattle.node_loop.proofs.Replying.{HoldsOfReplies, AreSuch, AreAllSuch, repli
 abbrev any_round : List Event → Round → Type 0
 any_round es x = Unit {0}
 
-module _ (w : Setting) (grow : (more es : List Event) (i : ℕ) → IsPart (rows_at w es i) (rows_at w (more ++ es) i)) where
+module _ (w : Setting) (once : AreOnce w.start.base) (grow : (more es : List Event) (i : ℕ) → IsPart (rows_at w es i) (rows_at w (more ++ es) i)) where
   true_ones : HoldsOfReplies w any_round (IsTrueReply w)
   true_ones = record {
     position = λ es at to client request position is.
@@ -32,7 +33,7 @@ module _ (w : Setting) (grow : (more es : List Event) (i : ℕ) → IsPart (rows
             request = was.request;
             position = was.position;
             bytes = was.bytes;
-            stands = position_in_part (rows_at w es x.at) (rows_at w (e ∷ es) x.at) (grow (e ∷ []) es x.at) (rows_are_once w (e ∷ es) x.at)
+            stands = position_in_part (rows_at w es x.at) (rows_at w (e ∷ es) x.at) (grow (e ∷ []) es x.at) (rows_are_once w once (e ∷ es) x.at)
                 was.client was.request was.position was.stands;
           };
       piece = λ form.
@@ -56,4 +57,4 @@ module _ (w : Setting) (grow : (more es : List Event) (i : ℕ) → IsPart (rows
 
   pub replies_true : (past : List Event) (start : Serving) (groups : List (List Round))
       → AllByRecursion (IsTrueReply w (so_far past (after_groups w past start groups))) (replies_in (told_from w past start groups))
-  replies_true past start groups = replies_hold w any_round (IsTrueReply w) true_ones past start groups (any_groups past start groups)
+  replies_true past start groups = replies_hold w once any_round (IsTrueReply w) true_ones past start groups (any_groups past start groups)

@@ -282,7 +282,7 @@ fresh_first version n ks none = record {
 pub fresh_next : {S E C : Type 0} (m : Meaning S E C KeyRow) (w : Setting) (es : List Event) (numbers : List ℕ) (reps : List (Replica S E C)) (k : ℕ) (rep : Replica S E C) (version : FrameVersion)
     (count : ℕ) (keeper : Keeper) (ks now : List Keeper)
     → AreHere m w es numbers reps → k < length reps → rep ≡ slice_index_or reps k rep
-    → ((r : Rules) (row : KeyRow) (st : CoreState) → ReplicaStands m rep r row st → count ≡ row.n)
+    → ((r : Rules) (row : KeyRow) (st : CoreState) → ReplicaStands w.start m rep r row st → count ≡ row.n)
     → ((i : ℕ) → IsReplica m w (states_of w es) i rep → version ≡ w.mode.version)
     → AreFresh w.mode.version w.numbers.n k ks → IsFresh version count keeper → now ≡ ks ++ keeper ∷ [] → AreFresh w.mode.version w.numbers.n (k + 1) now
 fresh_next m w es numbers reps k rep version count keeper ks now stand within is has of before fresh more =

@@ -7,7 +7,7 @@ use Rattle.outside.specs.declared.link.LinkItem.{LinkItem}
 use Rattle.outside.specs.declared.link.Sent.{Sent}
 use Rattle.outside.specs.Links.{replies_in}
 use Rattle.client_port.specs.Messages.{form_in, position_reply}
-use Rattle.command_log.specs.Rows.{position_of}
+use Rattle.command_log.specs.Rows.{position_of, AreOnce}
 use Rattle.command_log.specs.Pieces.{piece_bytes, piece_of_log}
 use Rattle.layer_api.specs.Broadcast.{BroadcastRules}
 use Rattle.layer_api.specs.Service.{ServiceRules, IsPart}
@@ -163,10 +163,14 @@ pub record IsTrueReply (w : Setting) (es : List Event) (x : Sent) : Type 0 where
   pub position : form_in x.bytes ≡ 1 → NamesPosition w es x
   pub piece : form_in x.bytes ≡ 3 → GivesPiece w es x
 
--- so it is of each reply, when it goes out and ever after
+-- so it is of each reply, when it goes out and ever after, where each client and request stands once among the rows that the logs
+-- begin with
 abbrev pub RepliesAreTrue : ServiceRules → BroadcastRules → Type 0
-RepliesAreTrue service other = (w : Setting) (past : List Event) (start : Serving) (groups : List (List Round)) → IsWorld service other w
-    → AllByRecursion (IsTrueReply w (so_far past (after_groups w past start groups))) (replies_in (told_from w past start groups))
+RepliesAreTrue service other =
+    (w : Setting) (past : List Event) (start : Serving) (groups : List (List Round))
+    → IsWorld service other w → AreOnce w.start.base
+    → AllByRecursion (IsTrueReply w (so_far past (after_groups w past start groups)))
+    (replies_in (told_from w past start groups))
 
 -- ---- the events
 

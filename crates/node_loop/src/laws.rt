@@ -77,7 +77,8 @@ pub fn events_fit()
 {}
 
 /// A reply that gives a position gives the one that the request has in the log of the replica which replies, and which it keeps there. A
-/// piece is of that log as it was at some moment, byte for byte.
+/// piece is of that log as it was at some moment, byte for byte. In an epoch of a chain the log begins with the rows of the epochs before, and
+/// the law asks that each client and request stands once among these.
 ///
 /// It does nothing: its contract is the law.
 pub fn replies_are_true<S: Service, E: Broadcast>()
@@ -88,7 +89,8 @@ pub fn replies_are_true<S: Service, E: Broadcast>()
 
 /// A piece that was replied is read by an observer without a fault, as a piece of the log which its replica has. So it is
 /// what `observer::log_is_true` asks of the pieces of correct replicas. That the queries fit, as the law asks, is what
-/// `serve`, `serve_kept` and `serve_recovered` say of what they served (`queries` of `Serves` and of `ServesAgain`).
+/// `serve`, `serve_kept` and `serve_recovered` say of what they served (`queries` of `Serves` and of `ServesAgain`). The
+/// rows that the logs begin with, none in a session by itself, are to be such as replicas enter, at most 4,200,000,000.
 ///
 /// It does nothing: its contract is the law.
 pub fn pieces_are_of_logs<S: Service, E: Broadcast>()

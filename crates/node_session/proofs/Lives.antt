@@ -13,7 +13,7 @@ use Rattle.world_model.specs.EveryWorld.{IsWorld, AgreementLaw}
 use Rattle.world_model.specs.MadeOrder.{all_made}
 use Rattle.node_loop.specs.Deeds.{firsts_in}
 use Rattle.node_loop.specs.Laws.{ActsAreDeeds, DeedsAreBehind, FramesAreMade, ResendsAreOpen, RecalledAreSent, RecalledAreOpen, AcksAreEarned, EventsFit, RepliesAreTrue, IsServed}
-use Rattle.node_loop.specs.PieceLaws.{PiecesAreOfLogs}
+use Rattle.node_loop.specs.PieceLaws.{HasSoundBase, PiecesAreOfLogs}
 use Rattle.node_loop.specs.Queries.{QueriesFit}
 use Rattle.node_loop.specs.Served.{MayBegin}
 use Rattle.node_loop.proofs.AfterPast.{record_served}
@@ -170,17 +170,17 @@ module _ (x : Session) (w : Setting) (tells : Tells) {S E C : Type 0} (m : Meani
 -- ---- a life
 
 -- what is true of a life that began with these events
-pub is_life : (h : Header) (w : Setting) → IsHeading (heading h) → (service : ServiceRules) (other : BroadcastRules) → IsWorld service other w → w.numbers ≡ h.p
+pub is_life : (h : Header) (w : Setting) → IsHeading (heading h) → (service : ServiceRules) (other : BroadcastRules) → IsWorld service other w → HasSoundBase w → w.numbers ≡ h.p
     → ((i : ℕ) → w.is_correct i ≡ true → has_member h.correct i ≡ true) → ActsAreDeeds → DeedsAreBehind → FramesAreMade → ResendsAreOpen → AcksAreEarned → EventsFit
     → RepliesAreTrue service other → PiecesAreOfLogs service other → AgreementLaw service other → RecalledAreSent → RecalledAreOpen → (until limit me : ℕ) (events : List Event) → w.is_correct me ≡ true
     → AllByRecursion (IsRecord me) events → (groups : List (List Round)) → AreGroups w (reverse events) until limit (recovered w (reverse events)) groups
     → QueriesFit w (reverse events) (recovered w (reverse events)) groups
     → IsTrueSession h w (so_far (reverse events) (after_groups w (reverse events) (recovered w (reverse events)) groups)) (recalled_deeds w (reverse events))
     (deeds_from w (reverse events) (recovered w (reverse events)) [] groups) (told_from w (reverse events) (recovered w (reverse events)) groups)
-is_life h w is service other kind numbers correct done behind made kept earned fit replied pieces agreed sent again until limit me events right own groups are queries =
+is_life h w is service other kind base numbers correct done behind made kept earned fit replied pieces agreed sent again until limit me events right own groups are queries =
     let past = reverse events in
     let made_first : all_made w past ≡ reverse (firsts_in (recalled_deeds w past)) = sym (ap reverse (again w past).1 ∙ reverse-reverse (all_made w past)) in
-    is_true h w is service other kind numbers correct done behind made kept earned fit replied pieces agreed past until limit (recovered w past) (recalled_deeds w past) groups refl
+    is_true h w is service other kind base numbers correct done behind made kept earned fit replied pieces agreed past until limit (recovered w past) (recalled_deeds w past) groups refl
     (All-from_recursion MayBegin [] tt) made_first (sent w past) (again w past).0 (all_back (IsServed w) events (record_served w me events right own)) are queries
 
 module _ (x : Session) (past : List Event) (w : Setting) (tells : Tells) (stands : List Event → Type 0) (fails : ArchiveFault → List Event → List Event → Type 0)

@@ -1,5 +1,5 @@
 -- What is true of a session.
-use Rattle.std.proofs.Common.{◌≡◌, ℕ, ◌<◌, ◌^◌, ◌==◌, Bool, true, false, List, [], ◌∷◌, ◌++◌, reverse, refl, sym, ◌∙◌, ap, subst, arith, map}
+use Rattle.std.proofs.Common.{◌≡◌, ℕ, ◌<◌, ◌≤◌, ◌^◌, ◌==◌, Bool, true, false, List, [], ◌∷◌, ◌++◌, length, reverse, refl, sym, ◌∙◌, ap, subst, arith, map, lit≤}
 use Rattle.std.specs.List.{All, AllByRecursion}
 use Rattle.std.proofs.lemmas.List.{append-nil, reverse-append}
 use Rattle.ritas_base.specs.declared.event.Event.{Event}
@@ -11,6 +11,7 @@ use Rattle.std.proofs.lemmas.Nat.Bits.{bit_at-pow_other}
 use Rattle.std.proofs.lemmas.Bool.{eqb-true, eq-eqb, both_ways}
 use Rattle.layer_api.specs.Broadcast.{BroadcastRules}
 use Rattle.layer_api.specs.Service.{ServiceRules}
+use Rattle.command_log.specs.Rows.{Start, AreOnce, alone}
 use Rattle.ritas_core.specs.Rules.{HasForm}
 use Rattle.outside.specs.declared.link.LinkItem.{LinkItem}
 use Rattle.schedule_file.specs.ReadHeader.{heading}
@@ -21,17 +22,19 @@ use Rattle.schedule_file.specs.declared.header.HeaderKeys.{HeaderKeys}
 use Rattle.schedule_file.specs.declared.header.HeaderKeys.TheVariants.{Master, Row}
 use Rattle.schedule_replay.specs.Layers.{setting_by, keys_with}
 use Rattle.schedule_replay.proofs.Deals.{member_within}
+use Rattle.replica.specs.CommandRows.{most_base}
 use Rattle.replica.specs.declared.replica.Replica.{Replica}
 use Rattle.keyed_channel.specs.KeyRow.{KeyRow}
 use Rattle.ritas_core.specs.Stands.{Meaning}
 use Rattle.world_model.specs.World.{Setting}
 use Rattle.world_model.specs.MadeOrder.{all_made}
 use Rattle.world_model.specs.EveryWorld.{IsWorld, AgreementLaw}
+use Rattle.world_model.specs.RowsFit.{AreOfCommands}
 use Rattle.node_loop.specs.declared.end.ServeEnd.{ServeEnd}
 use Rattle.node_loop.specs.Deeds.{Deed, firsts_in}
 use Rattle.node_loop.specs.Laws.{sent_as, ActsAreDeeds, DeedsAreBehind, FramesAreMade, AllSent, AreOpen, ResendsAreOpen, AcksAreEarned, RepliesAreTrue, EventsFit, IsServed}
 use Rattle.node_loop.specs.Outs.{Outs, Tells}
-use Rattle.node_loop.specs.PieceLaws.{PiecesAreOfLogs}
+use Rattle.node_loop.specs.PieceLaws.{HasSoundBase, PiecesAreOfLogs}
 use Rattle.node_loop.specs.Queries.{QueriesFit}
 use Rattle.node_loop.specs.Served.{MayBegin, Serves}
 use Rattle.node_loop.specs.Serving.{Serving, begin, so_far, Round, wants}
@@ -58,6 +61,14 @@ is_world service other h is serves form = record {
   serves = serves;
   form = form;
   own = λ i below. own_row h.keys h.mode.version h.session h.p.n i;
+}
+
+-- in a session by itself the logs begin with no rows
+pub sound_base : (w : Setting) → w.start ≡ alone → HasSoundBase w
+sound_base w is = record {
+  once = subst (λ (s : Start). AreOnce s.base) (sym is) tt;
+  rows = subst (λ (s : Start). AreOfCommands w.numbers.n s.base) (sym is) (λ r none. absurd none);
+  room = subst (λ (s : Start). length s.base ≤ most_base) (sym is) (lit≤ tt);
 }
 
 -- ---- the events
@@ -116,7 +127,7 @@ all_back {X = X} P (x ∷ xs) all =
 -- ---- what is true
 
 module _ (h : Header) (w : Setting) (is : IsHeading (heading h)) (service : ServiceRules) (other : BroadcastRules) (kind : IsWorld service other w)
-    (numbers : w.numbers ≡ h.p) (correct : (i : ℕ) → w.is_correct i ≡ true → has_member h.correct i ≡ true)
+    (base : HasSoundBase w) (numbers : w.numbers ≡ h.p) (correct : (i : ℕ) → w.is_correct i ≡ true → has_member h.correct i ≡ true)
     (done : ActsAreDeeds) (behind : DeedsAreBehind) (made : FramesAreMade) (kept : ResendsAreOpen) (earned : AcksAreEarned) (fit : EventsFit) (replied : RepliesAreTrue service other) (pieces : PiecesAreOfLogs service other) (agreed : AgreementLaw service other) where
   -- of serving that began after the past events, whose frames went out earlier
   pub is_true : (past : List Event) (until limit : ℕ) (start : Serving) (earlier : List Deed) (groups : List (List Round)) → start.events ≡ []
@@ -143,8 +154,8 @@ module _ (h : Header) (w : Setting) (is : IsHeading (heading h)) (service : Serv
         frames = ap (map sent_as) (made w past start [] earlier groups frames ∙ ap (λ (ds : List Deed). reverse (firsts_in ds)) all_deeds);
         resends = subst (AreOpen w) all_deeds (kept w past until limit start earlier groups are sent again);
         acknowledged = earned w past start [] groups tt;
-        replies = replied w past start groups kind;
-        pieces = pieces w past start groups kind queries;
+        replies = replied w past start groups kind base.once;
+        pieces = pieces w past start groups kind base queries;
         agree = λ holds. agreed w (so_far past s) kind holds;
       }
 

@@ -9,7 +9,7 @@ use Rattle.ritas_base.specs.declared.id.Id.{Id}
 use Rattle.layer_api.specs.OneValue.{ValueLaws}
 use Rattle.layer_api.specs.Service.{WordLaws, IsPart}
 use Rattle.keyed_channel.specs.KeyRow.{KeyRow}
-use Rattle.command_log.specs.Rows.{Row, entries_of_log, rows_of, command_rows}
+use Rattle.command_log.specs.Rows.{Row, Start, entries_of_log, rows_over, chain_rows}
 use Rattle.command_log.specs.Rows.{CommandEntry as Command}
 use Rattle.command_log.specs.Standing.{Ledger, StandsFor}
 use Rattle.ritas_core.specs.declared.kernel.Core.{Core}
@@ -54,20 +54,21 @@ done_by m core r st stands done is =
     is ∙ ap (λ (q : Rules). reverse (q.service.done (seat_of r) (parts r st.history).words)) stands.rules
 
 -- a log that follows has the rows of the history
-pub rows_are : {r : Rules} {h : List Entry} {log : Ledger} {fed : ℕ} → Follows r h log fed → log.rows ≡ history_rows r h
-rows_are {r} {h} {log} follows = follows.stands.rows ∙ ap (λ (f : ℕ). rows_of f (entries_at r h)) follows.f
+pub rows_are : {s : Start} {r : Rules} {h : List Entry} {log : Ledger} {fed : ℕ} → Follows s r h log fed → log.rows ≡ history_rows s r h
+rows_are {s} {r} {h} {log} follows =
+    follows.stands.rows ∙ ap₂ (λ (t : Start) (f : ℕ). rows_over t f (entries_at r h)) follows.start follows.f
 
-module _ {S E C : Type 0} (m : Meaning S E C KeyRow) (values : ValueLaws m.cast) (words : WordLaws m.service) (proper : WordsAreProper)
+module _ {S E C : Type 0} (s : Start) (m : Meaning S E C KeyRow) (values : ValueLaws m.cast) (words : WordLaws m.service) (proper : WordsAreProper)
     (core : Core S E C KeyRow) (r : Rules) (st : CoreState) (stands : CoreStands m core r st) where
   laws : LayerLaws r
   laws = layer_laws m values words core r st stands
 
   -- what a stop lost only adds rows
-  pub lost_rows : IsPart (history_rows r st.history) (history_rows r (with_lost st))
-  lost_rows = rows_lost r laws st.lost st.history (proper r laws st.history stands.history) (proper r laws (with_lost st) stands.whole)
+  pub lost_rows : IsPart (history_rows s r st.history) (history_rows s r (with_lost st))
+  lost_rows = rows_lost s r laws st.lost st.history (proper r laws st.history stands.history) (proper r laws (with_lost st) stands.whole)
 
   module _ (e : Entry) (h : List Entry) (is : st.history ≡ e ∷ h) (done : List Id) (shows : done ≡ reverse (ids_at r st.history))
-      (log : Ledger) (fed : ℕ) (before : Follows r h log fed) where
+      (log : Ledger) (fed : ℕ) (before : Follows s r h log fed) where
     met : IsHistory r (e ∷ h)
     met = subst (λ (x : List Entry). IsHistory r x) is stands.history
 
@@ -106,8 +107,11 @@ module _ {S E C : Type 0} (m : Meaning S E C KeyRow) (values : ValueLaws m.cast)
           subst (λ (x : List Entry). AllByRecursion (HasCommand r x) ids) (sym is)
           (subst (λ (xs : List Id). AllByRecursion (HasCommand r (e ∷ h)) xs) (sym ids_are) (all_reverse (HasCommand r (e ∷ h)) grown.more grown.have))
 
-      pub has_room : length (ids_at r h) + length ids < 4294967295
-      has_room = let room = grown.room in let len = length-reverse grown.more in omega (arith, room, len, ap length ids_are)
+      pub has_room : length log.start.base + length (ids_at r h) + length ids < 4294967295
+      has_room =
+          let base : length log.start.base ≡ length s.base = ap (λ (t : Start). length t.base) before.start in
+          let most : length s.base ≤ 4200000000 = before.room in
+          let room = grown.room in let len = length-reverse grown.more in omega (arith, base, most, room, len, ap length ids_are)
 
       -- they and those of before are all
       all_ids : reverse ids ++ ids_at r h ≡ ids_at r (e ∷ h)
@@ -116,21 +120,30 @@ module _ {S E C : Type 0} (m : Meaning S E C KeyRow) (values : ValueLaws m.cast)
       all_entries : entries_of_log (command_of r st.history) (reverse ids ++ ids_at r h) ≡ entries_at r (e ∷ h)
       all_entries = ap (λ (x : List Entry). entries_of_log (command_of r x) (reverse ids ++ ids_at r h)) is ∙ ap (entries_of_log (command_of r (e ∷ h))) all_ids
 
-      pub follows_now : (now : Ledger) → now.f ≡ log.f → StandsFor now (entries_of_log (command_of r st.history) (reverse ids ++ ids_at r h)) → Follows r (e ∷ h) now (length done)
-      follows_now now same is_now = record { f = same ∙ before.f; stands = subst (λ (es : List Command). StandsFor now es) all_entries is_now; count = all_fed }
+      pub follows_now : (now : Ledger) → now.f ≡ log.f → now.start ≡ log.start → StandsFor now (entries_of_log (command_of r st.history) (reverse ids ++ ids_at r h))
+          → Follows s r (e ∷ h) now (length done)
+      follows_now now same starts is_now = record { f = same ∙ before.f; start = starts ∙ before.start; room = before.room; stands = subst (λ (es : List Command). StandsFor now es) all_entries is_now; count = all_fed }
 
-      pub lies_between : (now : List Row) → IsPart (command_rows log.f (command_of r st.history) (ids_at r h)) now
-          × IsPart now (command_rows log.f (command_of r st.history) (reverse ids ++ ids_at r h)) → LiesBetween r h (e ∷ h) now
+      -- the log began there, and has so many faulty replicas
+      its_rows : (es fs : List Command) → es ≡ fs → rows_over log.start log.f es ≡ rows_over s r.casts.numbers.f fs
+      its_rows es fs same =
+          ap₂ (λ (t : Start) (f : ℕ). rows_over t f es) before.start before.f ∙ ap (rows_over s r.casts.numbers.f) same
+
+      pub lies_between : (now : List Row) → IsPart (chain_rows log.start log.f (command_of r st.history) (ids_at r h)) now
+          × IsPart now (chain_rows log.start log.f (command_of r st.history) (reverse ids ++ ids_at r h)) → LiesBetween s r h (e ∷ h) now
       lies_between now part = (
-        subst (λ (rows : List Row). IsPart rows now) (ap₂ rows_of before.f (ap (λ (x : List Entry). entries_of_log (command_of r x) (ids_at r h)) is ∙ sym grown.same)) part.0,
-        subst (λ (rows : List Row). IsPart now rows) (ap₂ rows_of before.f all_entries) part.1,
+        subst (λ (rows : List Row). IsPart rows now)
+            (its_rows (entries_of_log (command_of r st.history) (ids_at r h)) (entries_at r h)
+            (ap (λ (x : List Entry). entries_of_log (command_of r x) (ids_at r h)) is ∙ sym grown.same)) part.0,
+        subst (λ (rows : List Row). IsPart now rows)
+            (its_rows (entries_of_log (command_of r st.history) (reverse ids ++ ids_at r h)) (entries_at r (e ∷ h)) all_entries) part.1,
       )
 
     -- a log that follows lies between
-    pub follows_between : (now : Ledger) (count : ℕ) → Follows r (e ∷ h) now count → LiesBetween r h (e ∷ h) now.rows
+    pub follows_between : (now : Ledger) (count : ℕ) → Follows s r (e ∷ h) now count → LiesBetween s r h (e ∷ h) now.rows
     follows_between now count follows =
-        subst (λ (rows : List Row). LiesBetween r h (e ∷ h) rows) (sym (rows_are follows))
-        (rows_grow r laws e h (proper r laws h met.1) (proper r laws (e ∷ h) met), part_itself (history_rows r (e ∷ h)))
+        subst (λ (rows : List Row). LiesBetween s r h (e ∷ h) rows) (sym (rows_are follows))
+        (rows_grow r laws e h (proper r laws h met.1) (proper r laws (e ∷ h) met) s, part_itself (history_rows s r (e ∷ h)))
 
 -- ---- the log is fed, and then frames are sealed
 module _ {S E C : Type 0} (m : Meaning S E C KeyRow) (old mid new : Replica S E C) (only : FeedsOnly old mid) (same : SameRest mid new) where
@@ -149,13 +162,13 @@ module _ {S E C : Type 0} (m : Meaning S E C KeyRow) (old mid new : Replica S E 
       record { core = from_old.core; halted = from_old.halted; counts = from_old.counts }
 
   pub some_kept : FeedsSome m old mid → FeedsSome m old new
-  some_kept some r st e h stands live is before =
-      subst (λ (log : Ledger). LiesBetween r h (e ∷ h) log.rows) (sym same.log) (some r st e h stands live is before)
+  some_kept some s r st e h stands live is before =
+      subst (λ (log : Ledger). (log.start ≡ s) × LiesBetween s r h (e ∷ h) log.rows) (sym same.log) (some s r st e h stands live is before)
 
   pub feeds_kept : FeedsLog m old mid → FeedsLog m old new
   feeds_kept feeds = record {
-    follows = λ r st e h stands live is before.
-        let now = feeds.follows r st e h stands live is before in
-        subst (λ (log : Ledger). Follows r (e ∷ h) log new.fed) (sym same.log) (record { f = now.f; stands = now.stands; count = same.fed ∙ now.count });
+    follows = λ s r st e h stands live is before.
+        let now = feeds.follows s r st e h stands live is before in
+        subst (λ (log : Ledger). Follows s r (e ∷ h) log new.fed) (sym same.log) (record { f = now.f; start = now.start; room = now.room; stands = now.stands; count = same.fed ∙ now.count });
     some = some_kept feeds.some;
   }

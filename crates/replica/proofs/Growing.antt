@@ -1,12 +1,12 @@
 -- The identifier log after an entry: what it appends has commands that the core shows, and the rows of before are a part of its rows.
-use Rattle.std.proofs.Common.{◌≡◌, ℕ, ◌+◌, ◌<◌, ◌≤◌, Bool, true, false, ◌==◌, ◌&&◌, List, [], ◌∷◌, ◌++◌, length, Option, Some, None, inl, inr, refl, sym, ◌∙◌, ap, subst, arith, length-append}
+use Rattle.std.proofs.Common.{◌≡◌, ℕ, ◌+◌, ◌*◌, ◌≤◌, Bool, true, false, ◌==◌, ◌&&◌, List, [], ◌∷◌, ◌++◌, length, Option, Some, None, inl, inr, refl, sym, ◌∙◌, ap, subst, arith, length-append}
 use Rattle.std.specs.List.{AllByRecursion}
 use Rattle.std.specs.Option.{is_some}
 use Rattle.std.proofs.Math.Dec.{leb}
 use Rattle.std.proofs.lemmas.Bool.{or_cases, eqb-true}
 use Rattle.ritas_base.specs.declared.id.Id.{Id}
 use Rattle.ritas_base.specs.declared.slot.Slot.{Slot}
-use Rattle.ritas_base.specs.Limits.{least_request}
+use Rattle.ritas_base.specs.Limits.{number_limit, least_request}
 use Rattle.ritas_base.specs.Slots.{command_slot, is_atomic}
 use Rattle.ritas_base.specs.Numbers.{Numbers}
 use Rattle.frame_codec.specs.Format.{Is}
@@ -16,8 +16,8 @@ use Rattle.layer_api.specs.PurposeLaws.{order_of}
 use Rattle.layer_api.specs.Service.{orders_commands, AreProper, AreHeard, AreRecent, MayHear, MayWord, IsPart, is_past}
 use Rattle.layer_api.specs.FedLaws.{heard_met}
 use Rattle.layer_api.specs.PartLaws.{heard_is}
-use Rattle.command_log.specs.Rows.{IsIn, entries_of_log}
-use Rattle.command_log.specs.Laws.{command_part, same_entries}
+use Rattle.command_log.specs.Rows.{Start, IsIn, entries_of_log}
+use Rattle.command_log.specs.Laws.{chain_part, same_entries}
 use Rattle.command_log.specs.Fits.{command_long}
 use Rattle.ritas_core.specs.Rules.{Rules, seat_of}
 use Rattle.ritas_core.specs.Parts.{Entry, Took, Given, Parts, parts, heard_at, taken_at, item_delivers}
@@ -111,7 +111,7 @@ pub record Grows (r : Rules) (e : Entry) (h : List Entry) : Type 0 where
   pub whole : more ++ ids_at r h ≡ ids_at r (e ∷ h)
   pub have : AllByRecursion (HasCommand r (e ∷ h)) more
   pub same : entries_at r h ≡ entries_of_log (command_of r (e ∷ h)) (ids_at r h)
-  pub room : length (ids_at r h) + length more < 4294967295
+  pub room : length (ids_at r h) + length more ≤ 31 * number_limit
 
 no_front : (more xs : List Id) → more ++ xs ≡ [] → more ≡ []
 no_front [] xs e = refl
@@ -151,16 +151,16 @@ module _ (r : Rules) (laws : LayerLaws r) (e : Entry) (h : List Entry) (proper :
       by_purpose more false other none have = subst (λ (xs : List Id). AllByRecursion (HasCommand r (e ∷ h)) xs) (sym (none other)) tt
 
   -- so the rows of a history are a part of those with an entry more
-  pub rows_grow : IsPart (history_rows r h) (history_rows r (e ∷ h))
-  rows_grow =
+  pub rows_grow : (s : Start) → IsPart (history_rows s r h) (history_rows s r (e ∷ h))
+  rows_grow s =
       let a = adds_entry r laws e h now in
-      command_part r.casts.numbers.f (command_of r h) (command_of r (e ∷ h)) (ids_at r h) (ids_at r (e ∷ h)) (a.more, a.whole) same_command
+      chain_part s r.casts.numbers.f (command_of r h) (command_of r (e ∷ h)) (ids_at r h) (ids_at r (e ∷ h)) (a.more, a.whole) same_command
 
 pub part_itself : {X : Type 0} (xs : List X) → IsPart xs xs
 part_itself xs = ([], refl)
 
 -- and of those with what a stop lost
-pub rows_lost : (r : Rules) → LayerLaws r → (o : Option Entry) (h : List Entry) → IsProper r h → IsProper r (with_entry o h)
-    → IsPart (history_rows r h) (history_rows r (with_entry o h))
-rows_lost r laws None h proper now = part_itself (history_rows r h)
-rows_lost r laws (Some e) h proper now = rows_grow r laws e h proper now
+pub rows_lost : (s : Start) (r : Rules) → LayerLaws r → (o : Option Entry) (h : List Entry) → IsProper r h → IsProper r (with_entry o h)
+    → IsPart (history_rows s r h) (history_rows s r (with_entry o h))
+rows_lost s r laws None h proper now = part_itself (history_rows s r h)
+rows_lost s r laws (Some e) h proper now = rows_grow r laws e h proper now s

@@ -7,6 +7,7 @@ use Rattle.frame_codec.specs.declared.fault.BodyFault.{BodyFault}
 use Rattle.frame_codec.specs.declared.fault.BodyFault.TheVariants as body
 use Rattle.frame_codec.specs.Body.{body_answer, Answers, Spells, IsInGrammar}
 use Rattle.keyed_channel.specs.KeyRow.{KeyRow}
+use Rattle.command_log.specs.Rows.{Start}
 use Rattle.keyed_channel.specs.Frames.{Opening, opening}
 use Rattle.keyed_channel.specs.FramesLaws.{opened_is}
 use Rattle.ritas_core.specs.Rules.{Rules}
@@ -40,10 +41,10 @@ found_call r k st bytes item found = record {
   does = ap (given_frame r k st) found.read.opens ∙ ap (given_body r k st) found.read.body;
 }
 
-refused_handles : {S E C : Type 0} (m : Meaning S E C KeyRow) (rep : Replica S E C) (bytes : List ℕ) (before : List OutFrame) (r : Rules) (k : KeyRow) (st : CoreState) (refusal : Refusal) →
-    ReplicaStands m rep r k st → handled r k st (Frame bytes) ≡ refusal_handled st refusal → Handles (ReplicaStands m) rep (Frame bytes) before before (Err refusal) r k st
-refused_handles m rep bytes before r k st refusal stands same =
-    let P : CoreState → Type 0 = λ x. ReplicaStands m rep r k x in
+refused_handles : {S E C : Type 0} (s : Start) (m : Meaning S E C KeyRow) (rep : Replica S E C) (bytes : List ℕ) (before : List OutFrame) (r : Rules) (k : KeyRow) (st : CoreState) (refusal : Refusal) →
+    ReplicaStands s m rep r k st → handled r k st (Frame bytes) ≡ refusal_handled st refusal → Handles (ReplicaStands s m) rep (Frame bytes) before before (Err refusal) r k st
+refused_handles s m rep bytes before r k st refusal stands same =
+    let P : CoreState → Type 0 = λ x. ReplicaStands s m rep r k x in
     record {
       answer = ap (λ h. h.answer) (sym same);
       out = sym (append-nil before) ∙ ap (λ h. before ++ h.out) (sym same);
@@ -51,12 +52,12 @@ refused_handles m rep bytes before r k st refusal stands same =
     }
 
 -- a frame that brings no item
-pub refuses : {S E C : Type 0} (m : Meaning S E C KeyRow) (rep : Replica S E C) (bytes : List ℕ) (before : List OutFrame) (r : Rules) (k : KeyRow) (st : CoreState) (refusal : Refusal) →
-    ReplicaStands m rep r k st → ReadsFrame r k bytes (Err refusal) → ReplicaDoes (ReplicaStands m) rep (Frame bytes) before before (Err refusal) r k st
-refuses m rep bytes before r k st (refusals.Core fault) stands read = absurd read
-refuses m rep bytes before r k st (refusals.Open fault) stands read =
-    refused_handles m rep bytes before r k st (refusals.Open fault) stands (ap (given_frame r k st) read)
-refuses m rep bytes before r k st (refusals.Body body.Mem) stands read =
+pub refuses : {S E C : Type 0} (s : Start) (m : Meaning S E C KeyRow) (rep : Replica S E C) (bytes : List ℕ) (before : List OutFrame) (r : Rules) (k : KeyRow) (st : CoreState) (refusal : Refusal) →
+    ReplicaStands s m rep r k st → ReadsFrame r k bytes (Err refusal) → ReplicaDoes (ReplicaStands s m) rep (Frame bytes) before before (Err refusal) r k st
+refuses s m rep bytes before r k st (refusals.Core fault) stands read = absurd read
+refuses s m rep bytes before r k st (refusals.Open fault) stands read =
+    refused_handles s m rep bytes before r k st (refusals.Open fault) stands (ap (given_frame r k st) read)
+refuses s m rep bytes before r k st (refusals.Body body.Mem) stands read =
     record {
       out = refl;
       state = stands;
@@ -67,15 +68,15 @@ refuses m rep bytes before r k st (refusals.Body body.Mem) stands read =
       item = read.0;
       spells = read.1.body;
     }
-refuses m rep bytes before r k st (refusals.Body fault) stands read =
-    refused_handles m rep bytes before r k st (refusals.Body fault) stands (ap (given_frame r k st) read.opens ∙ ap (given_body r k st) read.body)
+refuses s m rep bytes before r k st (refusals.Body fault) stands read =
+    refused_handles s m rep bytes before r k st (refusals.Body fault) stands (ap (given_frame r k st) read.opens ∙ ap (given_body r k st) read.body)
 
 -- ---- reading
 
 -- the core stands for some state by these rules, whether the replica is stopped or not
-pub core_of : {S E C : Type 0} (m : Meaning S E C KeyRow) (rep : Replica S E C) (r : Rules) (k : KeyRow) (st : CoreState) →
-    ReplicaStands m rep r k st → (inner : CoreState) × CoreStands m rep.core r inner
-core_of m rep r k st stands = elim stands.state [ inl on ↦ (st, on.core) | inr off ↦ ((moved r (revived st) off.ahead.what).state, off.ahead.stands) ]
+pub core_of : {S E C : Type 0} (s : Start) (m : Meaning S E C KeyRow) (rep : Replica S E C) (r : Rules) (k : KeyRow) (st : CoreState) →
+    ReplicaStands s m rep r k st → (inner : CoreState) × CoreStands m rep.core r inner
+core_of s m rep r k st stands = elim stands.state [ inl on ↦ (st, on.core) | inr off ↦ ((moved r (revived st) off.ahead.what).state, off.ahead.stands) ]
 
 -- a frame opened, and its body is read with the numbers and the mode of the rules
 pub record IsOpened (r : Rules) (k : KeyRow) (p : Numbers) (mode : Mode) (bytes : List ℕ) (o : Opening) : Type 0 where

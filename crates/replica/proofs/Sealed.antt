@@ -1,9 +1,8 @@
 -- A call whose frames are appended as bytes, from the call that made them without tags.
-use Rattle.std.proofs.Common.{◌≡◌, ◌≢◌, ℕ, Bool, true, false, List, [], ◌∷◌, ◌++◌, Option, Some, None, Result, Ok, Err, ◌⊎◌, inl, inr, refl, sym, ◌∙◌, ap, subst, append-nil}
+use Rattle.std.proofs.Common.{◌≡◌, ◌≢◌, ℕ, true, false, List, [], ◌∷◌, ◌++◌, Option, Result, Ok, Err, ◌⊎◌, inl, inr, refl, sym, ◌∙◌, ap, subst, append-nil}
 use Rattle.std.specs.Prelude.{OnOk, OnErr}
 use Rattle.std.specs.Result.{is_err}
 use Rattle.ritas_base.specs.declared.item.Item.{Item}
-use Rattle.ritas_base.specs.declared.item.Msg.{Msg}
 use Rattle.frame_codec.specs.declared.fault.BodyFault.{BodyFault}
 use Rattle.frame_codec.specs.declared.fault.BodyFault.TheVariants as body
 use Rattle.frame_codec.specs.Body.{body_answer}
@@ -12,7 +11,7 @@ use Rattle.keyed_channel.specs.Frames.{Opening, opening}
 use Rattle.keyed_channel.specs.declared.frame.OpenFault.{OpenFault}
 use Rattle.layer_api.specs.OneValue.{ValueLaws}
 use Rattle.layer_api.specs.Service.{WordLaws}
-use Rattle.command_log.specs.Rows.{Row}
+use Rattle.command_log.specs.Rows.{Row, Start}
 use Rattle.ritas_core.specs.declared.answer.Answer.{Answer}
 use Rattle.ritas_core.specs.declared.fault.CoreFault.TheVariants as faults
 use Rattle.ritas_core.specs.Rules.{Rules}
@@ -21,7 +20,7 @@ use Rattle.ritas_core.specs.Checks.{IsHistory}
 use Rattle.ritas_core.specs.Machine as core
 use Rattle.ritas_core.specs.Machine.{CoreState, What, with_entry, moved}
 use Rattle.ritas_core.specs.Calls.{IsCoreStep, entry_of_call, stopped}
-use Rattle.ritas_core.specs.Laws.{LayerLaws, WordsAreProper}
+use Rattle.ritas_core.specs.Laws.{WordsAreProper}
 use Rattle.ritas_core.specs.Stands.{Meaning, CoreStands}
 use Rattle.ritas_core.specs.StandsLaws.{layer_laws}
 use Rattle.replica.specs.Out.{OutFrame}
@@ -30,7 +29,7 @@ use Rattle.replica.specs.declared.refusal.Refusal.TheVariants as refusals
 use Rattle.replica.specs.declared.replica.Replica.{Replica}
 use Rattle.replica.specs.CommandRows.{history_rows, LiesBetween}
 use Rattle.replica.specs.Frames.{frames_of, count_for}
-use Rattle.replica.specs.Handling.{ReplicaCall, Frame, Input, Turn, Handled, handled, framed, given_frame, given_body}
+use Rattle.replica.specs.Handling.{ReplicaCall, Frame, Input, Turn, Handled, handled, given_frame, given_body}
 use Rattle.replica.specs.MovesLaws.{moved_view}
 use Rattle.replica.specs.Replica.{ReplicaStands, StandsGoing}
 use Rattle.replica.specs.Stands.{Handles, ReplicaRunsOut, ReplicaDoes, ReplicaDoesAll, frame_given, body_given}
@@ -64,9 +63,9 @@ call_or_none r k st Turn = inl (core.Turn, record { given = refl; does = refl })
 -- ---- the replica is stopped for want of memory
 
 -- a replica in a state that is live goes on
-going_live : {S E C : Type 0} (m : Meaning S E C KeyRow) (rep : Replica S E C) (r : Rules) (k : KeyRow) (st : CoreState) → ReplicaStands m rep r k st
-    → st.live ≡ true → StandsGoing m rep r k st
-going_live m rep r k st stands live = elim stands.state [
+pub going_live : {S E C : Type 0} (s : Start) (m : Meaning S E C KeyRow) (rep : Replica S E C) (r : Rules) (k : KeyRow) (st : CoreState) → ReplicaStands s m rep r k st
+    → st.live ≡ true → StandsGoing s m rep r k st
+going_live s m rep r k st stands live = elim stands.state [
   | inl on ↦ on
   | inr off ↦ let same : true ≡ false = sym live ∙ off.dead in absurd (cc same)
 ]
@@ -75,20 +74,20 @@ going_live m rep r k st stands live = elim stands.state [
 abbrev pub halted_with : {S E C : Type 0} → ℕ → Replica S E C → Replica S E C
 halted_with sent old = record { core = old.core; log = old.log; fed = old.fed; counts = old.counts; sent = sent; stopped = true }
 
-module _ {S E C : Type 0} (m : Meaning S E C KeyRow) (values : ValueLaws m.cast) (words : WordLaws m.service) (proper : WordsAreProper) where
+module _ {S E C : Type 0} (s : Start) (m : Meaning S E C KeyRow) (values : ValueLaws m.cast) (words : WordLaws m.service) (proper : WordsAreProper) where
   -- the rows after an entry lie between those before it and those with it
-  rows_between : (c : Replica S E C) (r : Rules) (k : KeyRow) (st : CoreState) (e : Entry) (h : List Entry) → StandsGoing m c r k st → st.history ≡ e ∷ h
-      → LiesBetween r h (e ∷ h) c.log.rows
+  rows_between : (c : Replica S E C) (r : Rules) (k : KeyRow) (st : CoreState) (e : Entry) (h : List Entry) → StandsGoing s m c r k st → st.history ≡ e ∷ h
+      → LiesBetween s r h (e ∷ h) c.log.rows
   rows_between c r k st e h on is =
       let laws = layer_laws m values words c.core r st on.core in
       let met : IsHistory r (e ∷ h) = subst (λ (x : List Entry). IsHistory r x) is on.core.history in
-      let rows : c.log.rows ≡ history_rows r (e ∷ h) = rows_are on.log ∙ ap (history_rows r) is in
-      subst (λ (rs : List Row). LiesBetween r h (e ∷ h) rs) (sym rows)
-      (rows_grow r laws e h (proper r laws h met.1) (proper r laws (e ∷ h) met), part_itself (history_rows r (e ∷ h)))
+      let rows : c.log.rows ≡ history_rows s r (e ∷ h) = rows_are on.log ∙ ap (history_rows s r) is in
+      subst (λ (rs : List Row). LiesBetween s r h (e ∷ h) rs) (sym rows)
+      (rows_grow r laws e h (proper r laws h met.1) (proper r laws (e ∷ h) met) s, part_itself (history_rows s r (e ∷ h)))
 
   stops_sealing : (first old : Replica S E C) (call : ReplicaCall) (made before : List OutFrame) (answer : Result Answer Refusal) (r : Rules) (k : KeyRow) (st : CoreState)
-      → ReplicaStands m first r k st → made ≢ [] → Handles (ReplicaStands m) old call [] made answer r k st
-      → ReplicaRunsOut (ReplicaStands m) (halted_with first.sent old) call before before r k st
+      → ReplicaStands s m first r k st → made ≢ [] → Handles (ReplicaStands s m) old call [] made answer r k st
+      → ReplicaRunsOut (ReplicaStands s m) (halted_with first.sent old) call before before r k st
   stops_sealing first old call made before answer r k st stands some did = elim (call_or_none r k st call) [
     | inr none ↦ absurd (some (did.out ∙ none))
     | inl given ↦
@@ -97,10 +96,10 @@ module _ {S E C : Type 0} (m : Meaning S E C KeyRow) (values : ValueLaws m.cast)
         elim (moved_view r st what) [
           | inr quiet ↦ absurd (some (did.out ∙ ap (λ (h : Handled). h.out) call_is.does ∙ ap (frames_of k (count_for r st.history)) quiet.out))
           | inl enters ↦
-              let now : ReplicaStands m old r k (moved r st what).state =
-              subst (λ (x : CoreState). ReplicaStands m old r k x) (ap (λ (h : Handled). h.state) call_is.does) did.state in
-              let was = going_live m first r k st stands enters.live in
-              let on = going_live m old r k (moved r st what).state now enters.going in
+              let now : ReplicaStands s m old r k (moved r st what).state =
+              subst (λ (x : CoreState). ReplicaStands s m old r k x) (ap (λ (h : Handled). h.state) call_is.does) did.state in
+              let was = going_live s m first r k st stands enters.live in
+              let on = going_live s m old r k (moved r st what).state now enters.going in
               let same = sym (revived_is st what enters.live (was.core.lost enters.live)) in
               record {
                 out = refl;
@@ -123,8 +122,9 @@ module _ {S E C : Type 0} (m : Meaning S E C KeyRow) (values : ValueLaws m.cast)
                         stands = subst (λ (x : CoreState). CoreStands m old.core r (moved r x what).state) same on.core;
                       };
                       sent = was.counted.all;
+                      start = on.log.start;
                       log =
-                          let L : Option Entry → Type 0 = λ o. LiesBetween r st.history (with_entry o st.history) old.log.rows in
+                          let L : Option Entry → Type 0 = λ o. LiesBetween s r st.history (with_entry o st.history) old.log.rows in
                           subst L (sym enters.entered) (rows_between old r k (moved r st what).state enters.entry st.history on enters.history);
                     });
                   },
@@ -135,8 +135,8 @@ module _ {S E C : Type 0} (m : Meaning S E C KeyRow) (values : ValueLaws m.cast)
 
   -- what was made can't be put out for want of memory
   pub seals_none : (first old : Replica S E C) (call : ReplicaCall) (made before : List OutFrame) (answer : Result Answer Refusal) (r : Rules) (k : KeyRow) (st : CoreState)
-      → ReplicaStands m first r k st → made ≢ [] → ReplicaDoes (ReplicaStands m) old call [] made answer r k st
-      → ReplicaRunsOut (ReplicaStands m) (halted_with first.sent old) call before before r k st
+      → ReplicaStands s m first r k st → made ≢ [] → ReplicaDoes (ReplicaStands s m) old call [] made answer r k st
+      → ReplicaRunsOut (ReplicaStands s m) (halted_with first.sent old) call before before r k st
   seals_none first old call made before (Err (refusals.Core faults.Mem)) r k st stands some did = absurd (some did.out)
   seals_none first old call made before (Err (refusals.Body body.Mem)) r k st stands some did = absurd (some did.out)
   seals_none first old call made before (Ok answer) r k st stands some did =

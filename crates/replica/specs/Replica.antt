@@ -11,6 +11,7 @@ use Rattle.layer_api.specs.Words.{Word}
 use Rattle.layer_api.specs.ServiceCalls.{ServiceShown}
 use Rattle.keyed_channel.specs.Keyed.{tags_of}
 use Rattle.keyed_channel.specs.KeyRow.{KeyRow}
+use Rattle.command_log.specs.Rows.{Start}
 use Rattle.ritas_core.specs.Rules.{Rules}
 use Rattle.ritas_core.specs.Parts.{Entry}
 use Rattle.ritas_core.specs.Machine.{CoreState, What, with_lost, moved}
@@ -35,12 +36,12 @@ pub record AreCounted (r : Rules) (k : KeyRow) (h : List Entry) (counts : List �
   pub each : AreCounts k.n counts (count_for r h)
   pub all : sent ≡ frames_made r k h % 2 ^ 64
 
--- the replica goes on as its core does, and its log follows
-pub record StandsGoing {S E C : Type 0} (m : Meaning S E C KeyRow) (rep : Replica S E C) (r : Rules) (k : KeyRow) (st : CoreState) : Type 0 where
+-- the replica goes on as its core does, and its log, which begins so, follows
+pub record StandsGoing {S E C : Type 0} (s : Start) (m : Meaning S E C KeyRow) (rep : Replica S E C) (r : Rules) (k : KeyRow) (st : CoreState) : Type 0 where
   pub going : rep.stopped ≡ false
   pub core : CoreStands m rep.core r st
   pub counted : AreCounted r k st.history rep.counts rep.sent
-  pub log : Follows r st.history rep.log rep.fed
+  pub log : Follows s r st.history rep.log rep.fed
 
 -- the state before the call that stopped it
 abbrev pub revived : CoreState → CoreState
@@ -55,16 +56,17 @@ pub record StandsAhead {S E C : Type 0} (m : Meaning S E C KeyRow) (core : Core 
 
 -- it was without memory to feed its log or to seal a frame: it keeps its state and made no frame, its core is ahead of it, and its
 -- log lies between
-pub record StandsStopped {S E C : Type 0} (m : Meaning S E C KeyRow) (rep : Replica S E C) (r : Rules) (k : KeyRow) (st : CoreState) : Type 0 where
+pub record StandsStopped {S E C : Type 0} (s : Start) (m : Meaning S E C KeyRow) (rep : Replica S E C) (r : Rules) (k : KeyRow) (st : CoreState) : Type 0 where
   pub halted : rep.stopped ≡ true
   pub dead : st.live ≡ false
   pub ahead : StandsAhead m rep.core r st
   pub sent : rep.sent ≡ frames_made r k st.history % 2 ^ 64
-  pub log : LiesBetween r st.history (with_lost st) rep.log.rows
+  pub start : rep.log.start ≡ s
+  pub log : LiesBetween s r st.history (with_lost st) rep.log.rows
 
--- the replica stands for this state, by these rules and keys
-pub record ReplicaStands {S E C : Type 0} (m : Meaning S E C KeyRow) (rep : Replica S E C) (r : Rules) (k : KeyRow) (st : CoreState) : Type 0 where
+-- the replica stands for this state, by these rules and keys, and its log begins so
+pub record ReplicaStands {S E C : Type 0} (s : Start) (m : Meaning S E C KeyRow) (rep : Replica S E C) (r : Rules) (k : KeyRow) (st : CoreState) : Type 0 where
   pub keys : tagger_of rep.core ≡ k
   pub own : k.me ≡ r.casts.me
   pub many : k.n ≡ r.casts.numbers.n
-  pub state : StandsGoing m rep r k st ⊎ StandsStopped m rep r k st
+  pub state : StandsGoing s m rep r k st ⊎ StandsStopped s m rep r k st

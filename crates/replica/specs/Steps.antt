@@ -7,6 +7,7 @@ use Rattle.frame_codec.specs.declared.fault.BodyFault.TheVariants as body
 use Rattle.frame_codec.specs.Body.{body_answer}
 use Rattle.keyed_channel.specs.KeyRow.{KeyRow}
 use Rattle.keyed_channel.specs.Frames.{Opening, opening}
+use Rattle.command_log.specs.Rows.{Start}
 use Rattle.ritas_core.specs.declared.answer.Answer.{Answer}
 use Rattle.ritas_core.specs.declared.answer.Answer.TheVariants as answers
 use Rattle.ritas_core.specs.declared.fault.CoreFault.{CoreFault}
@@ -75,15 +76,15 @@ pub record PutsOut {S E C : Type 0} (old new : Replica S E C) (ms : List Msg) (b
 abbrev pub FeedsOnly : {S E C : Type 0} → Replica S E C → Replica S E C → Type 0
 FeedsOnly old new = new ≡ record old { log = new.log; fed = new.fed }
 
--- after an entry of the core the log's rows lie between what they were and those with that entry
+-- after an entry of the core the log begins where it began, and its rows lie between what they were and those with that entry
 abbrev pub FeedsSome : {S E C : Type 0} → Meaning S E C KeyRow → Replica S E C → Replica S E C → Type 0
-FeedsSome m old new = (r : Rules) (st : CoreState) (e : Entry) (h : List Entry) → CoreStands m old.core r st → st.live ≡ true → st.history ≡ e ∷ h
-    → Follows r h old.log old.fed → LiesBetween r h (e ∷ h) new.log.rows
+FeedsSome m old new = (s : Start) (r : Rules) (st : CoreState) (e : Entry) (h : List Entry) → CoreStands m old.core r st → st.live ≡ true → st.history ≡ e ∷ h
+    → Follows s r h old.log old.fed → (new.log.start ≡ s) × LiesBetween s r h (e ∷ h) new.log.rows
 
 -- and it follows
 pub record FeedsLog {S E C : Type 0} (m : Meaning S E C KeyRow) (old new : Replica S E C) : Type 0 where
-  pub follows : (r : Rules) (st : CoreState) (e : Entry) (h : List Entry) → CoreStands m old.core r st → st.live ≡ true → st.history ≡ e ∷ h
-      → Follows r h old.log old.fed → Follows r (e ∷ h) new.log new.fed
+  pub follows : (s : Start) (r : Rules) (st : CoreState) (e : Entry) (h : List Entry) → CoreStands m old.core r st → st.live ≡ true → st.history ≡ e ∷ h
+      → Follows s r h old.log old.fed → Follows s r (e ∷ h) new.log new.fed
   pub some : FeedsSome m old new
 
 -- the service appended identifiers that weren't entered yet
@@ -128,5 +129,5 @@ pub record SameRest {S E C : Type 0} (old new : Replica S E C) : Type 0 where
 -- whatever call a replica had, which had made so many frames: where that call made these as frames without tags and answered so, the
 -- call does what it is to do with the bytes
 abbrev pub Seals : {S E C : Type 0} → Meaning S E C KeyRow → ℕ → Replica S E C → Replica S E C → Result Answer Refusal → List OutFrame → List OutFrame → List OutFrame → Result Answer Refusal → Type 0
-Seals {S} {E} {C} m sent old new answer made before after result = (first : Replica S E C) (call : ReplicaCall) → first.sent ≡ sent
-    → ReplicaDoesAll (ReplicaStands m) first old call [] made answer → ReplicaDoesAll (ReplicaStands m) first new call before after result
+Seals {S} {E} {C} m sent old new answer made before after result = (s : Start) (first : Replica S E C) (call : ReplicaCall) → first.sent ≡ sent
+    → ReplicaDoesAll (ReplicaStands s m) first old call [] made answer → ReplicaDoesAll (ReplicaStands s m) first new call before after result

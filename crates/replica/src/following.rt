@@ -7,7 +7,7 @@ ghost use Rattle.ritas_core.specs.Rules.{Rules};
 ghost use Rattle.ritas_core.specs.Machine.{CoreState};
 ghost use Rattle.ritas_core.specs.Stands.{CoreStands};
 ghost use Rattle.ritas_base.specs.declared.id.Id.{Id};
-ghost use Rattle.command_log.specs.Rows.{CommandEntry, entry_of_id, entries_of_log, command_rows, client_of, request_of, has_row};
+ghost use Rattle.command_log.specs.Rows.{CommandEntry, entry_of_id, entries_of_log, chain_rows, client_of, request_of, has_row};
 ghost use Rattle.command_log.specs.Standing.{StandsFor};
 ghost use Rattle.replica.specs.Replica.{with_keys};
 ghost use Rattle.replica.specs.CommandRows.{command_of, HasCommand};
@@ -37,6 +37,7 @@ fn follow_one<S: Service, E: Broadcast, C: Coin + Drop>(
         → (has : HasCommand r st.history id)
         → has_row log.old.rows (client_of has.command) (request_of has.command) ≡ false) }
     ensures f { log.new.f ≡ log.old.f }
+    ensures start { log.new.start ≡ log.old.start }
 {
     let Some(command) = core.delivered(&Slot::command(id.origin, id.num)) else {
         return Ok(());
@@ -58,17 +59,20 @@ pub(crate) fn follow<S: Service, E: Broadcast, C: Coin + Drop>(
 ) -> Result<(), Mem>
     ensures ok { let m = with_keys S.stands S.rules S.shown E.stands E.rules E.shown C.bits in
         OnOk result ((r : Rules) (st : CoreState) → CoreStands m core.now r st → st.live ≡ true
-        → AllByRecursion (HasCommand r st.history) ids.now → (xs : List Id) → length xs + length ids.now < 4294967295
+        → AllByRecursion (HasCommand r st.history) ids.now → (xs : List Id)
+        → length log.old.start.base + length xs + length ids.now < 4294967295
         → StandsFor log.old (entries_of_log (command_of r st.history) xs)
         → StandsFor log.new (entries_of_log (command_of r st.history) (reverse ids.now ++ xs))) }
     ensures err { let m = with_keys S.stands S.rules S.shown E.stands E.rules E.shown C.bits in
         OnErr result ((r : Rules) (st : CoreState) → CoreStands m core.now r st → st.live ≡ true
-        → AllByRecursion (HasCommand r st.history) ids.now → (xs : List Id) → length xs + length ids.now < 4294967295
+        → AllByRecursion (HasCommand r st.history) ids.now → (xs : List Id)
+        → length log.old.start.base + length xs + length ids.now < 4294967295
         → StandsFor log.old (entries_of_log (command_of r st.history) xs)
-        → IsPart (command_rows log.old.f (command_of r st.history) xs) log.new.rows
-        × IsPart log.new.rows (command_rows log.old.f (command_of r st.history) (reverse ids.now ++ xs))) }
+        → IsPart (chain_rows log.old.start log.old.f (command_of r st.history) xs) log.new.rows
+        × IsPart log.new.rows (chain_rows log.old.start log.old.f (command_of r st.history) (reverse ids.now ++ xs))) }
     ensures memory { OnErr result (ids.now ≢ []) }
     ensures f { log.new.f ≡ log.old.f }
+    ensures start { log.new.start ≡ log.old.start }
 {
     for id in ids {
         follow_one(alloc, core, log, *id)?;

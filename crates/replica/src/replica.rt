@@ -4,7 +4,7 @@ use crate::following::follow;
 use crate::frame::OutFrame;
 use crate::refusal::Refusal;
 use crate::sending::{append_bytes, send};
-use command_log::Log;
+use command_log::{Log, Rows};
 use frame_codec::read_body;
 use keyed_channel::{Channel, Keys, LazyFrame};
 use layer_api::{Broadcast, Service};
@@ -28,7 +28,7 @@ pub struct Replica<S: Service, E: Broadcast, C: Coin + Drop> {
 }
 
 impl<S: Service, E: Broadcast, C: Coin + Drop> Replica<S, E, C> {
-    ghost use Rattle.std.specs.Prelude.{◌≡◌, ◌≢◌, ℕ, [], IfOk, replicate, ◌%◌, ◌^◌, true, OnOk, OnErr, ◌⊎◌};
+    ghost use Rattle.std.specs.Prelude.{◌≡◌, ◌≢◌, ℕ, ◌≤◌, [], length, IfOk, replicate, ◌%◌, ◌^◌, true, OnOk, OnErr, ◌⊎◌};
     ghost use Rattle.keyed_channel.specs.Keyed.{tags_of};
     ghost use Rattle.keyed_channel.specs.KeyRow.{KeyRow};
     ghost use Rattle.ritas_core.specs.Rules.{Rules, other_form, casts_by};
@@ -40,19 +40,27 @@ impl<S: Service, E: Broadcast, C: Coin + Drop> Replica<S, E, C> {
     ghost use Rattle.replica.specs.Isolation.{IsIsolated, IsOpenedIsolated};
     ghost use Rattle.replica.specs.Steps.{ReadsOpened, PutsOut, SameRest, SameCore, FeedsOnly, FeedsSome, FeedsLog, HasUnfed, MayWant, ReplicaFinishes, Seals};
     ghost use Rattle.layer_api.specs.Service.{IsPart};
-    ghost use Rattle.replica.specs.CommandRows.{history_rows};
+    ghost use Rattle.command_log.specs.Rows.{Start, alone, chained_on};
+    ghost use Rattle.command_log.specs.Standing.{StandsFor};
+    ghost use Rattle.replica.specs.CommandRows.{history_rows, most_base};
 
-    /// The replica that has these keys, before any call. The one error is want of memory.
-    ///
-    /// The service serves the mode's root service, and the form of the other broadcast is 2 in root service 2 or where VECT
-    /// goes by echo broadcast, and otherwise that of the reliable broadcast of VECTs in the mode's version of frames: 1 in
-    /// version 1, 3 in versions 2 and 3. The keys are of that version too.
-    pub fn new(alloc: Global, p: Params, mode: Mode, keys: Keys, coin: C) -> Result<Self, Mem>
+    // The replica that has these keys and this log, before any call.
+    fn begin(
+        alloc: Global,
+        p: Params,
+        mode: Mode,
+        keys: Keys,
+        coin: C,
+        log: Log,
+    ) -> Result<Self, Mem>
         requires made_for { keys.n ≡ p.n }
         requires version { keys.version ≡ mode.version }
         requires form { E.FORM ≡ other_form mode }
         requires served { S.rules.serves mode.root ≡ true }
-        ensures { IfOk result (λ replica. ReplicaStands (with_keys S.stands S.rules S.shown E.stands E.rules E.shown C.bits) replica
+        requires origins { log.f ≡ p.f }
+        requires fresh { StandsFor log [] }
+        requires room { length log.start.base ≤ most_base }
+        ensures { IfOk result (λ replica. ReplicaStands log.start (with_keys S.stands S.rules S.shown E.stands E.rules E.shown C.bits) replica
             (record { mode = mode; casts = casts_by mode p keys.me (tags_of keys) E.rules; coin = C.bits coin; service = S.rules })
             keys (first_state (replicate p.n []))) }
     {
@@ -60,12 +68,54 @@ impl<S: Service, E: Broadcast, C: Coin + Drop> Replica<S, E, C> {
         let core = Core::new(alloc, p, mode, keys.me(), channel, coin)?;
         Ok(Replica {
             core,
-            log: Log::new(alloc, p.f()),
+            log,
             fed: 0,
             counts: [0; 31],
             sent: 0,
             stopped: false,
         })
+    }
+
+    /// The replica that has these keys, before any call. The one error is want of memory.
+    ///
+    /// The service serves the mode's root service, and the form of the other broadcast is 2 in root service 2 or where VECT
+    /// goes by echo broadcast, and otherwise that of the reliable broadcast of VECTs in the mode's version of frames: 1 in
+    /// version 1, 3 in versions 2 and 3. The keys are of that version too.
+    ///
+    /// Its log of commands is that of a session by itself.
+    pub fn new(alloc: Global, p: Params, mode: Mode, keys: Keys, coin: C) -> Result<Self, Mem>
+        requires made_for { keys.n ≡ p.n }
+        requires version { keys.version ≡ mode.version }
+        requires form { E.FORM ≡ other_form mode }
+        requires served { S.rules.serves mode.root ≡ true }
+        ensures { IfOk result (λ replica. ReplicaStands alone (with_keys S.stands S.rules S.shown E.stands E.rules E.shown C.bits) replica
+            (record { mode = mode; casts = casts_by mode p keys.me (tags_of keys) E.rules; coin = C.bits coin; service = S.rules })
+            keys (first_state (replicate p.n []))) }
+    {
+        Replica::begin(alloc, p, mode, keys, coin, Log::new(alloc, p.f()))
+    }
+
+    /// The replica of an epoch of a chain, before any call. It is as that of [`Replica::new`], but that its log of commands
+    /// begins with the rows of the epochs before, at most 4,200,000,000. A client and a request that have a row among these get no
+    /// other, and once a row closes the epoch the log enters nothing more. The one error is want of memory.
+    pub fn over(
+        alloc: Global,
+        p: Params,
+        mode: Mode,
+        keys: Keys,
+        coin: C,
+        rows: Rows,
+    ) -> Result<Self, Mem>
+        requires made_for { keys.n ≡ p.n }
+        requires version { keys.version ≡ mode.version }
+        requires form { E.FORM ≡ other_form mode }
+        requires served { S.rules.serves mode.root ≡ true }
+        requires room { length rows ≤ most_base }
+        ensures { IfOk result (λ replica. ReplicaStands (chained_on rows) (with_keys S.stands S.rules S.shown E.stands E.rules E.shown C.bits) replica
+            (record { mode = mode; casts = casts_by mode p keys.me (tags_of keys) E.rules; coin = C.bits coin; service = S.rules })
+            keys (first_state (replicate p.n []))) }
+    {
+        Replica::begin(alloc, p, mode, keys, coin, Log::over(alloc, p.f(), rows))
     }
 
     // Seals these messages, and appends the frames.
@@ -156,8 +206,8 @@ impl<S: Service, E: Broadcast, C: Coin + Drop> Replica<S, E, C> {
 
     // The item that a frame from this sender with this body brings.
     fn read(&self, alloc: Global, from: u8, body: &[u8]) -> Result<Item, Refusal>
-        ensures { (r : Rules) (k : KeyRow) (st : CoreState)
-            → ReplicaStands (with_keys S.stands S.rules S.shown E.stands E.rules E.shown C.bits) self.now r k st
+        ensures { (s : Start) (r : Rules) (k : KeyRow) (st : CoreState)
+            → ReplicaStands s (with_keys S.stands S.rules S.shown E.stands E.rules E.shown C.bits) self.now r k st
             → ReadsOpened r k from body.now result }
     {
         let p = self.core.params();
@@ -187,9 +237,9 @@ impl<S: Service, E: Broadcast, C: Coin + Drop> Replica<S, E, C> {
         bytes: &[u8],
         out: &mut Vec<OutFrame>,
     ) -> Result<Answer, Refusal>
-        ensures does { ReplicaDoesAll (ReplicaStands (with_keys S.stands S.rules S.shown E.stands E.rules E.shown C.bits))
+        ensures does { (s : Start) → ReplicaDoesAll (ReplicaStands s (with_keys S.stands S.rules S.shown E.stands E.rules E.shown C.bits))
             self.old self.new (Frame bytes.now) out.old.items out.new.items result }
-        ensures isolated { IsIsolated (ReplicaStands (with_keys S.stands S.rules S.shown E.stands E.rules E.shown C.bits))
+        ensures isolated { (s : Start) → IsIsolated (ReplicaStands s (with_keys S.stands S.rules S.shown E.stands E.rules E.shown C.bits))
             self.old self.new bytes.now out.old.items out.new.items result }
     {
         let sent = self.sent;
@@ -208,7 +258,7 @@ impl<S: Service, E: Broadcast, C: Coin + Drop> Replica<S, E, C> {
         bytes: &[u8],
         out: &mut Vec<OutFrame>,
     ) -> Result<Answer, Refusal>
-        ensures { ReplicaDoesAll (ReplicaStands (with_keys S.stands S.rules S.shown E.stands E.rules E.shown C.bits))
+        ensures { (s : Start) → ReplicaDoesAll (ReplicaStands s (with_keys S.stands S.rules S.shown E.stands E.rules E.shown C.bits))
             self.old self.new (Input bytes.now) out.old.items out.new.items result }
     {
         let sent = self.sent;
@@ -223,7 +273,7 @@ impl<S: Service, E: Broadcast, C: Coin + Drop> Replica<S, E, C> {
     /// The one error is `Core`, which leaves `out` as it was, and the replica but that the item has left the inbox.
     /// `Core(Mem)` leaves all as it was where the item was to be held; where it was to be taken, the replica is stopped.
     pub fn on_turn(&mut self, alloc: Global, out: &mut Vec<OutFrame>) -> Result<Answer, Refusal>
-        ensures { ReplicaDoesAll (ReplicaStands (with_keys S.stands S.rules S.shown E.stands E.rules E.shown C.bits))
+        ensures { (s : Start) → ReplicaDoesAll (ReplicaStands s (with_keys S.stands S.rules S.shown E.stands E.rules E.shown C.bits))
             self.old self.new Turn out.old.items out.new.items result }
     {
         let sent = self.sent;
@@ -261,9 +311,9 @@ impl<S: Service, E: Broadcast, C: Coin + Drop> Replica<S, E, C> {
         bytes: &[u8],
         out: &mut Vec<OutFrame<LazyFrame>>,
     ) -> Result<Answer, Refusal>
-        ensures does { ReplicaDoesAll (ReplicaStands (with_keys S.stands S.rules S.shown E.stands E.rules E.shown C.bits))
+        ensures does { (s : Start) → ReplicaDoesAll (ReplicaStands s (with_keys S.stands S.rules S.shown E.stands E.rules E.shown C.bits))
             self.old self.new (Frame bytes.now) out.old.items out.new.items result }
-        ensures isolated { IsIsolated (ReplicaStands (with_keys S.stands S.rules S.shown E.stands E.rules E.shown C.bits))
+        ensures isolated { (s : Start) → IsIsolated (ReplicaStands s (with_keys S.stands S.rules S.shown E.stands E.rules E.shown C.bits))
             self.old self.new bytes.now out.old.items out.new.items result }
     {
         match self.core.tagger().open(bytes) {
@@ -280,9 +330,9 @@ impl<S: Service, E: Broadcast, C: Coin + Drop> Replica<S, E, C> {
         frame: &LazyFrame,
         out: &mut Vec<OutFrame<LazyFrame>>,
     ) -> Result<Answer, Refusal>
-        ensures does { ReplicaDoesAll (ReplicaStands (with_keys S.stands S.rules S.shown E.stands E.rules E.shown C.bits))
+        ensures does { (s : Start) → ReplicaDoesAll (ReplicaStands s (with_keys S.stands S.rules S.shown E.stands E.rules E.shown C.bits))
             self.old self.new (Frame frame.now) out.old.items out.new.items result }
-        ensures isolated { IsIsolated (ReplicaStands (with_keys S.stands S.rules S.shown E.stands E.rules E.shown C.bits))
+        ensures isolated { (s : Start) → IsIsolated (ReplicaStands s (with_keys S.stands S.rules S.shown E.stands E.rules E.shown C.bits))
             self.old self.new frame.now out.old.items out.new.items result }
     {
         match self.core.tagger().open_lazily(frame) {
@@ -299,9 +349,9 @@ impl<S: Service, E: Broadcast, C: Coin + Drop> Replica<S, E, C> {
         body: &[u8],
         out: &mut Vec<OutFrame<LazyFrame>>,
     ) -> Result<Answer, Refusal>
-        ensures does { DoesOpened (ReplicaStands (with_keys S.stands S.rules S.shown E.stands E.rules E.shown C.bits))
+        ensures does { (s : Start) → DoesOpened (ReplicaStands s (with_keys S.stands S.rules S.shown E.stands E.rules E.shown C.bits))
             self.old self.new from body.now out.old.items out.new.items result }
-        ensures isolated { IsOpenedIsolated (ReplicaStands (with_keys S.stands S.rules S.shown E.stands E.rules E.shown C.bits))
+        ensures isolated { (s : Start) → IsOpenedIsolated (ReplicaStands s (with_keys S.stands S.rules S.shown E.stands E.rules E.shown C.bits))
             self.old self.new from body.now out.old.items out.new.items result }
     {
         let item = self.read(alloc, from, body)?;
@@ -320,7 +370,7 @@ impl<S: Service, E: Broadcast, C: Coin + Drop> Replica<S, E, C> {
         bytes: &[u8],
         out: &mut Vec<OutFrame<LazyFrame>>,
     ) -> Result<Answer, Refusal>
-        ensures { ReplicaDoesAll (ReplicaStands (with_keys S.stands S.rules S.shown E.stands E.rules E.shown C.bits))
+        ensures { (s : Start) → ReplicaDoesAll (ReplicaStands s (with_keys S.stands S.rules S.shown E.stands E.rules E.shown C.bits))
             self.old self.new (Input bytes.now) out.old.items out.new.items result }
     {
         if self.stopped {
@@ -337,7 +387,7 @@ impl<S: Service, E: Broadcast, C: Coin + Drop> Replica<S, E, C> {
         alloc: Global,
         out: &mut Vec<OutFrame<LazyFrame>>,
     ) -> Result<Answer, Refusal>
-        ensures { ReplicaDoesAll (ReplicaStands (with_keys S.stands S.rules S.shown E.stands E.rules E.shown C.bits))
+        ensures { (s : Start) → ReplicaDoesAll (ReplicaStands s (with_keys S.stands S.rules S.shown E.stands E.rules E.shown C.bits))
             self.old self.new Turn out.old.items out.new.items result }
     {
         if self.stopped {
@@ -350,8 +400,8 @@ impl<S: Service, E: Broadcast, C: Coin + Drop> Replica<S, E, C> {
 
     /// Whether no call was without memory, but for one that only was to read a body or to hold an item.
     pub fn live(&self) -> bool
-        ensures { (r : Rules) (k : KeyRow) (st : CoreState)
-            → ReplicaStands (with_keys S.stands S.rules S.shown E.stands E.rules E.shown C.bits) self.now r k st
+        ensures { (s : Start) (r : Rules) (k : KeyRow) (st : CoreState)
+            → ReplicaStands s (with_keys S.stands S.rules S.shown E.stands E.rules E.shown C.bits) self.now r k st
             → result ≡ st.live }
     {
         !self.stopped && self.core.live()
@@ -359,8 +409,8 @@ impl<S: Service, E: Broadcast, C: Coin + Drop> Replica<S, E, C> {
 
     /// The keys of the replica.
     pub fn keys(&self) -> &Keys
-        ensures { (r : Rules) (k : KeyRow) (st : CoreState)
-            → ReplicaStands (with_keys S.stands S.rules S.shown E.stands E.rules E.shown C.bits) self.now r k st
+        ensures { (s : Start) (r : Rules) (k : KeyRow) (st : CoreState)
+            → ReplicaStands s (with_keys S.stands S.rules S.shown E.stands E.rules E.shown C.bits) self.now r k st
             → result.now ≡ k }
     {
         self.core.tagger().keys()
@@ -368,8 +418,8 @@ impl<S: Service, E: Broadcast, C: Coin + Drop> Replica<S, E, C> {
 
     /// The channel to the other replicas: the keys of the replica, made ready to tag with.
     pub fn channel(&self) -> &Channel
-        ensures { (r : Rules) (k : KeyRow) (st : CoreState)
-            → ReplicaStands (with_keys S.stands S.rules S.shown E.stands E.rules E.shown C.bits) self.now r k st
+        ensures { (s : Start) (r : Rules) (k : KeyRow) (st : CoreState)
+            → ReplicaStands s (with_keys S.stands S.rules S.shown E.stands E.rules E.shown C.bits) self.now r k st
             → result.now ≡ k }
     {
         self.core.tagger()
@@ -378,36 +428,54 @@ impl<S: Service, E: Broadcast, C: Coin + Drop> Replica<S, E, C> {
     /// The core. It stands for the replica's state; but where the replica is stopped it may be ahead of it, by what the call
     /// that stopped the replica was to take.
     pub fn core(&self) -> &Core<S, E, C, Channel>
-        ensures live { (r : Rules) (k : KeyRow) (st : CoreState)
-            → ReplicaStands (with_keys S.stands S.rules S.shown E.stands E.rules E.shown C.bits) self.now r k st
+        ensures live { (s : Start) (r : Rules) (k : KeyRow) (st : CoreState)
+            → ReplicaStands s (with_keys S.stands S.rules S.shown E.stands E.rules E.shown C.bits) self.now r k st
             → st.live ≡ true
             → CoreStands (with_keys S.stands S.rules S.shown E.stands E.rules E.shown C.bits) result.now r st }
-        ensures near { (r : Rules) (k : KeyRow) (st : CoreState)
-            → ReplicaStands (with_keys S.stands S.rules S.shown E.stands E.rules E.shown C.bits) self.now r k st
+        ensures near { (s : Start) (r : Rules) (k : KeyRow) (st : CoreState)
+            → ReplicaStands s (with_keys S.stands S.rules S.shown E.stands E.rules E.shown C.bits) self.now r k st
             → CoreStands (with_keys S.stands S.rules S.shown E.stands E.rules E.shown C.bits) result.now r st
             ⊎ StandsAhead (with_keys S.stands S.rules S.shown E.stands E.rules E.shown C.bits) result.now r st }
     {
         &self.core
     }
 
-    /// The log of commands: the rows of the service's identifier log, as of the last call. Of a replica that was stopped it
-    /// has the rows of its history, and may have some of those that the stop lost.
+    /// The log of commands: it begins where that of the replica does, and has the rows of the service's identifier log, as of the last
+    /// call, above those of its base. Of a replica that was stopped it has the rows of its history, and may have some of those that
+    /// the stop lost.
     pub fn log(&self) -> &Log
-        ensures live { (r : Rules) (k : KeyRow) (st : CoreState)
-            → ReplicaStands (with_keys S.stands S.rules S.shown E.stands E.rules E.shown C.bits) self.now r k st
-            → st.live ≡ true → result.now.rows ≡ history_rows r st.history }
-        ensures near { (r : Rules) (k : KeyRow) (st : CoreState)
-            → ReplicaStands (with_keys S.stands S.rules S.shown E.stands E.rules E.shown C.bits) self.now r k st
-            → IsPart (history_rows r st.history) result.now.rows × IsPart result.now.rows (history_rows r (with_lost st)) }
+        ensures live { (s : Start) (r : Rules) (k : KeyRow) (st : CoreState)
+            → ReplicaStands s (with_keys S.stands S.rules S.shown E.stands E.rules E.shown C.bits) self.now r k st
+            → st.live ≡ true → result.now.rows ≡ history_rows s r st.history }
+        ensures near { (s : Start) (r : Rules) (k : KeyRow) (st : CoreState)
+            → ReplicaStands s (with_keys S.stands S.rules S.shown E.stands E.rules E.shown C.bits) self.now r k st
+            → IsPart (history_rows s r st.history) result.now.rows × IsPart result.now.rows (history_rows s r (with_lost st)) }
+        ensures start { (s : Start) (r : Rules) (k : KeyRow) (st : CoreState)
+            → ReplicaStands s (with_keys S.stands S.rules S.shown E.stands E.rules E.shown C.bits) self.now r k st
+            → result.now.start ≡ s }
     {
         history_laws();
         &self.log
     }
 
+    /// The rows of its log of commands, with those of the base: the base of the log of the next epoch. Of a replica that was stopped
+    /// they are those of its history, and maybe some of those that the stop lost.
+    pub fn into_rows(self) -> Rows
+        ensures live { (s : Start) (r : Rules) (k : KeyRow) (st : CoreState)
+            → ReplicaStands s (with_keys S.stands S.rules S.shown E.stands E.rules E.shown C.bits) self r k st
+            → st.live ≡ true → result ≡ history_rows s r st.history }
+        ensures near { (s : Start) (r : Rules) (k : KeyRow) (st : CoreState)
+            → ReplicaStands s (with_keys S.stands S.rules S.shown E.stands E.rules E.shown C.bits) self r k st
+            → IsPart (history_rows s r st.history) result × IsPart result (history_rows s r (with_lost st)) }
+    {
+        history_laws();
+        self.log.into_rows()
+    }
+
     /// How many frames the replica made, modulo 2^64.
     pub fn sent(&self) -> u64
-        ensures { (r : Rules) (k : KeyRow) (st : CoreState)
-            → ReplicaStands (with_keys S.stands S.rules S.shown E.stands E.rules E.shown C.bits) self.now r k st
+        ensures { (s : Start) (r : Rules) (k : KeyRow) (st : CoreState)
+            → ReplicaStands s (with_keys S.stands S.rules S.shown E.stands E.rules E.shown C.bits) self.now r k st
             → result ≡ frames_made r k st.history % 2 ^ 64 }
     {
         self.sent

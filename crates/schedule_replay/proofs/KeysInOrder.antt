@@ -60,4 +60,5 @@ world_dealt service_stands service service_shown other_stands other other_shown 
   keys = λ i k e. sym (at_number (dealt_to h) h.p.n i k e);
   coins = λ i coin e. ap coin_bit (sym (at_number (coin_to h) h.p.n i coin e));
   going = λ k i. refl;
+  start = refl;
 }

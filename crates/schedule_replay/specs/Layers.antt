@@ -13,6 +13,7 @@ use Rattle.ritas_base.specs.declared.root_service.RootService.TheVariants as roo
 use Rattle.keyed_channel.specs.Keyed.{CoinSeed, dealt_for, coin_key_of, coin_bit, tags_of}
 use Rattle.ritas_base.specs.Bytes.{filled_row}
 use Rattle.keyed_channel.specs.KeyRow.{KeyRow}
+use Rattle.command_log.specs.Rows.{alone}
 use Rattle.reliable_bcast.specs.Bracha.{bracha}
 use Rattle.reliable_bcast.specs.Digests.{by_digest}
 use Rattle.echo_bcast.specs.Matrix.{echo}
@@ -74,7 +75,8 @@ coin_to h i = coin_with h.keys h.session i
 
 -- ---- the world
 
--- the world of a header, with a service and a broadcast, in which these replicas are correct: none stops between events
+-- the world of a header, with a service and a broadcast, in which these replicas are correct: none stops between events, and it is a
+-- session by itself
 abbrev pub setting_with : (ℕ → Bool) → ServiceRules → BroadcastRules → Header → Setting
 setting_with is_correct service other h = record {
   numbers = h.p;
@@ -85,6 +87,7 @@ setting_with is_correct service other h = record {
   coin = λ i. coin_bit (coin_to h i);
   keys = dealt_to h;
   stops = λ k i. false;
+  start = alone;
 }
 
 -- in which those are that it names

@@ -14,7 +14,7 @@ use Rattle.ritas_core.specs.Rules.{Rules, seat_of}
 use Rattle.ritas_core.specs.Parts.{Entry, parts}
 use Rattle.ritas_core.specs.Machine.{CoreState}
 use Rattle.ritas_core.specs.Shown.{all_bytes, delivered_at}
-use Rattle.command_log.specs.Rows.{row_at}
+use Rattle.command_log.specs.Rows.{Start, row_at}
 use Rattle.command_log.specs.declared.row.LogRow.{LogRow}
 use Rattle.replica.specs.Stands.{frames_made}
 use Rattle.replica.specs.CommandRows.{history_rows}
@@ -121,27 +121,27 @@ row_lines_below rows n =
 abbrev pub row_lines : List LogRow → List ℕ
 row_lines rows = row_lines_below rows (length rows)
 
--- how many rounds are complete, and the command log
+-- how many rounds are complete, and the command log, which begins so
 abbrev pub rounds_line : ℕ → ℕ → List ℕ
 rounds_line completed rows = codes "rounds " ++ (decimal completed ++ (codes " rows " ++ (decimal rows ++ end_of_line)))
 
-abbrev pub log_lines : Rules → List Entry → List ℕ
-log_lines r h = rounds_line (r.service.completed (seat_of r) (parts r h).words) (length (history_rows r h)) ++ row_lines (history_rows r h)
+abbrev pub log_lines : Start → Rules → List Entry → List ℕ
+log_lines s r h = rounds_line (r.service.completed (seat_of r) (parts r h).words) (length (history_rows s r h)) ++ row_lines (history_rows s r h)
 
 -- root services 1 and 2 show what they delivered, those that order commands their command log, and those with one instance
 -- what became of it
-abbrev pub service_lines : Rules → List Entry → List ℕ
-service_lines r h =
+abbrev pub service_lines : Start → Rules → List Entry → List ℕ
+service_lines s r h =
     if nat_le r.mode.root 2 then out_lines r h
-    else if is_atomic r.mode.root then log_lines r h
+    else if is_atomic r.mode.root then log_lines s r h
     else ending_line (r.service.outcome (seat_of r) (parts r h).words)
 
--- how a replica stands that is in this state, and what its service shows
-abbrev pub standing_lines : ℕ → Rules → KeyRow → CoreState → List ℕ
-standing_lines i r k st = replica_line i (frames_made r k st.history % 2 ^ 64) st ++ service_lines r st.history
+-- how a replica stands that is in this state, and whose log begins so, and what its service shows
+abbrev pub standing_lines : Start → ℕ → Rules → KeyRow → CoreState → List ℕ
+standing_lines s i r k st = replica_line i (frames_made r k st.history % 2 ^ 64) st ++ service_lines s r st.history
 
 abbrev pub replica_lines : Setting → List Event → ℕ → List ℕ
-replica_lines w es i = standing_lines i (rules_at w i) (w.keys i) (states_of w es i)
+replica_lines w es i = standing_lines w.start i (rules_at w i) (w.keys i) (states_of w es i)
 
 abbrev pub audit_line : Audit → List ℕ
 audit_line audits.Holds = codes "audit holds" ++ end_of_line

@@ -8,6 +8,7 @@ use Rattle.ritas_base.specs.declared.mode.FrameVersion.TheVariants.{One}
 use Rattle.layer_api.specs.Purpose.{vector_rounds}
 use Rattle.layer_api.specs.Service.{ServiceRules, Orders, LastVector, Undecided, Decided, Value, Spent}
 use Rattle.reliable_bcast.specs.Bracha.{bracha}
+use Rattle.command_log.specs.Rows.{alone}
 use Rattle.world_model.specs.Audit.{first_broken}
 use Rattle.world_model.specs.World.{Setting, states_of}
 use Rattle.ritas_base.specs.declared.what.What.TheVariants as what_of
@@ -72,6 +73,7 @@ world = record {
   coin = λ i s. false;
   keys = λ i. record { session = 5; n = 4; me = i; row = []; version = One };
   stops = λ k i. false;
+  start = alone;
 }
 
 of_four : vectors_on world [] ≡ codes "vector 1 spent\nvector 2 7 0 02\nvector 3 undecided\naudit holds\n"

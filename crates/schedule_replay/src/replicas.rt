@@ -4,6 +4,7 @@ ghost use Rattle.std.specs.List.{flat_map, range_with_len};
 ghost use Rattle.ritas_base.specs.declared.event.Event.{Event};
 ghost use Rattle.keyed_channel.specs.Keyed.{tags_of};
 ghost use Rattle.keyed_channel.specs.KeyRow.{KeyRow};
+ghost use Rattle.command_log.specs.Rows.{Start};
 ghost use Rattle.replica.specs.Replica.{ReplicaStands};
 ghost use Rattle.ritas_core.specs.CoreOf.{IsCoreOf};
 ghost use Rattle.ritas_core.specs.Machine.{CoreState};
@@ -44,8 +45,8 @@ fn add_lines<S: Service, E: Broadcast, C: Coin + Drop>(
     replica: &Replica<S, E, C>,
 ) -> Result<(), AllocError>
     ensures { let m = meaning S.stands S.rules S.shown E.stands E.rules E.shown C.bits (λ k. k.me) tags_of in
-        (r : Rules) (k : KeyRow) (st : CoreState) → ReplicaStands m replica.now r k st → st.live ≡ true → IsCoreOf S.rules E.rules r
-        → OnOk result (string_bytes text.new ≡ string_bytes text.old ++ lines_by lines i r k st) }
+        (s : Start) (r : Rules) (k : KeyRow) (st : CoreState) → ReplicaStands s m replica.now r k st → st.live ≡ true → IsCoreOf S.rules E.rules r
+        → OnOk result (string_bytes text.new ≡ string_bytes text.old ++ lines_by lines s i r k st) }
 {
     match lines {
         Lines::Report => add_replica(alloc, text, i, replica),

@@ -4,7 +4,7 @@ ghost use Rattle.ritas_base.specs.declared.event.Event.{Event};
 ghost use Rattle.keyed_channel.specs.Keyed.{tags_of};
 ghost use Rattle.keyed_channel.specs.KeyRow.{KeyRow};
 ghost use Rattle.ritas_base.specs.Slots.{command_slot};
-ghost use Rattle.command_log.specs.Rows.{row_at};
+ghost use Rattle.command_log.specs.Rows.{Start, row_at};
 ghost use Rattle.replica.specs.Replica.{ReplicaStands};
 ghost use Rattle.ritas_core.specs.CoreOf.{IsCoreOf};
 ghost use Rattle.ritas_core.specs.Machine.{CoreState};
@@ -163,8 +163,8 @@ fn add_log<S: Service, E: Broadcast, C: Coin + Drop>(
     replica: &Replica<S, E, C>,
 ) -> Result<(), AllocError>
     ensures { let m = meaning S.stands S.rules S.shown E.stands E.rules E.shown C.bits (λ k. k.me) tags_of in
-        (r : Rules) (k : KeyRow) (st : CoreState) → ReplicaStands m replica.now r k st → st.live ≡ true → IsCoreOf S.rules E.rules r
-        → OnOk result (string_bytes text.new ≡ string_bytes text.old ++ log_lines r st.history) }
+        (s : Start) (r : Rules) (k : KeyRow) (st : CoreState) → ReplicaStands s m replica.now r k st → st.live ≡ true → IsCoreOf S.rules E.rules r
+        → OnOk result (string_bytes text.new ≡ string_bytes text.old ++ log_lines s r st.history) }
 {
     let log = replica.log();
     let completed = replica.core().service().completed();
@@ -180,8 +180,8 @@ fn add_service<S: Service, E: Broadcast, C: Coin + Drop>(
     replica: &Replica<S, E, C>,
 ) -> Result<(), AllocError>
     ensures { let m = meaning S.stands S.rules S.shown E.stands E.rules E.shown C.bits (λ k. k.me) tags_of in
-        (r : Rules) (k : KeyRow) (st : CoreState) → ReplicaStands m replica.now r k st → st.live ≡ true → IsCoreOf S.rules E.rules r
-        → OnOk result (string_bytes text.new ≡ string_bytes text.old ++ service_lines r st.history) }
+        (s : Start) (r : Rules) (k : KeyRow) (st : CoreState) → ReplicaStands s m replica.now r k st → st.live ≡ true → IsCoreOf S.rules E.rules r
+        → OnOk result (string_bytes text.new ≡ string_bytes text.old ++ service_lines s r st.history) }
 {
     let core = replica.core();
     match core.mode().service() {
@@ -201,8 +201,8 @@ pub(crate) fn add_replica<S: Service, E: Broadcast, C: Coin + Drop>(
     replica: &Replica<S, E, C>,
 ) -> Result<(), AllocError>
     ensures { let m = meaning S.stands S.rules S.shown E.stands E.rules E.shown C.bits (λ k. k.me) tags_of in
-        (r : Rules) (k : KeyRow) (st : CoreState) → ReplicaStands m replica.now r k st → st.live ≡ true → IsCoreOf S.rules E.rules r
-        → OnOk result (string_bytes text.new ≡ string_bytes text.old ++ standing_lines i r k st) }
+        (s : Start) (r : Rules) (k : KeyRow) (st : CoreState) → ReplicaStands s m replica.now r k st → st.live ≡ true → IsCoreOf S.rules E.rules r
+        → OnOk result (string_bytes text.new ≡ string_bytes text.old ++ standing_lines s i r k st) }
 {
     let core = replica.core();
     let line = replica_line(alloc, i, replica.sent(), core.inbox_len(), core.held())?;

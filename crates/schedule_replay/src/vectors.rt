@@ -3,6 +3,7 @@ ghost use Rattle.std.specs.Prelude.{◌≡◌, ◌++◌, List, true, OnOk, IfOk,
 ghost use Rattle.ritas_base.specs.declared.event.Event.{Event};
 ghost use Rattle.keyed_channel.specs.Keyed.{tags_of};
 ghost use Rattle.keyed_channel.specs.KeyRow.{KeyRow};
+ghost use Rattle.command_log.specs.Rows.{Start};
 ghost use Rattle.replica.specs.Replica.{ReplicaStands};
 ghost use Rattle.ritas_core.specs.CoreOf.{IsCoreOf};
 ghost use Rattle.ritas_core.specs.Machine.{CoreState};
@@ -30,7 +31,7 @@ pub(crate) fn add_vector<S: Service, E: Broadcast, C: Coin + Drop>(
     replica: &Replica<S, E, C>,
 ) -> Result<(), AllocError>
     ensures { let m = meaning S.stands S.rules S.shown E.stands E.rules E.shown C.bits (λ k. k.me) tags_of in
-        (r : Rules) (k : KeyRow) (st : CoreState) → ReplicaStands m replica.now r k st → st.live ≡ true → IsCoreOf S.rules E.rules r
+        (s : Start) (r : Rules) (k : KeyRow) (st : CoreState) → ReplicaStands s m replica.now r k st → st.live ≡ true → IsCoreOf S.rules E.rules r
         → OnOk result (string_bytes text.new ≡ string_bytes text.old ++ vector_line_of i r st.history) }
 {
     let service = replica.core().service();

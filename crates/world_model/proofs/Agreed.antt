@@ -1,10 +1,10 @@
 -- The law of agreement over every world, from the law of its service.
-use Rattle.std.proofs.Common.{◌≡◌, ℕ, true, List, [], ◌∷◌, ◌∙◌, ap, subst}
+use Rattle.std.proofs.Common.{◌≡◌, ℕ, true, List, [], ◌∷◌, refl, ◌∙◌, ap, subst}
 use Rattle.layer_api.specs.Runs.{calls_of, Has}
 use Rattle.layer_api.specs.Words.{Word, Ask, bit_byte}
 use Rattle.layer_api.specs.OneLog.{OneLog, IsRunOf}
 use Rattle.command_log.specs.Rows.{entries_of_log}
-use Rattle.command_log.specs.Laws.{rows_once}
+use Rattle.command_log.specs.Laws.{chain_once}
 use Rattle.ritas_core.specs.Rules.{seat_of}
 use Rattle.ritas_base.specs.declared.event.Event.{Event}
 use Rattle.ritas_base.specs.declared.id.Id.{Id}
@@ -41,7 +41,8 @@ agree_of w es sound one holds =
     let proposed = decisions_proposed w es sound audit.1 values one x run in
     record {
       logs = λ i j left right. rows_one w es sound holds values i j left right (ids i j left right);
-      once = λ i. rows_once w.numbers.f (entries_of_log (command_delivered w es i) (identifier_log w es i));
+      once = λ base i. chain_once w.start w.numbers.f (entries_of_log (command_delivered w es i) (identifier_log w es i)) base;
+      own = λ i. refl;
       submitted = λ i r correct good here. row_submitted w es sound holds values i r correct good here;
       confirmed = row_confirmed_at w es sound holds values;
       identifiers = ids;

@@ -22,7 +22,7 @@ use Rattle.ritas_core.specs.Rules.{Rules}
 use Rattle.ritas_core.specs.Parts.{parts}
 use Rattle.ritas_core.specs.Checks.{verdict_on, input_check}
 use Rattle.ritas_core.specs.Machine as core
-use Rattle.ritas_core.specs.Machine.{CoreState, What, moved, moved_live, stays, gives_item, given_item, given_input, turned}
+use Rattle.ritas_core.specs.Machine.{CoreState, What, moved, moved_live, stays, gives_item, given_input, turned}
 use Rattle.ritas_core.specs.Stands.{Meaning}
 use Rattle.replica.specs.Out.{OutFrame}
 use Rattle.replica.specs.declared.refusal.Refusal.{Refusal}
@@ -30,6 +30,7 @@ use Rattle.replica.specs.declared.refusal.Refusal.TheVariants as refusals
 use Rattle.replica.specs.declared.replica.Replica.{Replica}
 use Rattle.replica.specs.Handling.{ReplicaCall, Frame, Input, Turn, handled, given_frame, given_body}
 use Rattle.replica.specs.Stands.{Handles, ReplicaRunsOut, ReadsNone, ReplicaDoesAll, body_given, frame_given, core_call}
+use Rattle.command_log.specs.Rows.{Start}
 use Rattle.replica.specs.Replica.{ReplicaStands}
 use Rattle.world_model.specs.declared.seen.Seen.{Seen}
 use Rattle.world_model.specs.declared.seen.Seen.TheVariants as seen_as
@@ -103,14 +104,14 @@ past_is_faulty m w states at replicas stand past = let many = stand.many in none
 
 -- a correct replica is as after a call
 called_place : {S E C : Type 0} (m : Meaning S E C KeyRow) (w : Setting) (states : ℕ → CoreState) (at : ℕ) (call : ReplicaCall) (new : Replica S E C) →
-    w.is_correct at ≡ true → ReplicaStands m new (rules_at w at) (w.keys at) (handled_at w states (record { at = at; call = call })).state → (states at).live ≡ true
+    w.is_correct at ≡ true → ReplicaStands w.start m new (rules_at w at) (w.keys at) (handled_at w states (record { at = at; call = call })).state → (states at).live ≡ true
     → IsReplica m w (after_call w states (Some (record { at = at; call = call }))) at new
 called_place m w states at call new right stands live =
     let c : CallAt = record { at = at; call = call } in
     let same : after_call w states (Some c) at ≡ (handled_at w states c).state = ap (λ b. if b then (handled_at w states c).state else states at) (eq-eqb at at refl) in
     record {
       correct = right;
-      stands = let P : CoreState → Type 0 = λ st. ReplicaStands m new (rules_at w at) (w.keys at) st in subst P (sym same) stands;
+      stands = let P : CoreState → Type 0 = λ st. ReplicaStands w.start m new (rules_at w at) (w.keys at) st in subst P (sym same) stands;
       live = ap (λ st. st.live) same ∙ handled_live (rules_at w at) (w.keys at) (states at) call live;
     }
 
@@ -122,13 +123,13 @@ other_place m w states c i (Some rep) other is =
     let same : after_call w states (Some c) i ≡ states i = ap (λ b. if b then (handled_at w states c).state else states i) (ne_eqb c.at i other) in
     record {
       correct = is.correct;
-      stands = let P : CoreState → Type 0 = λ st. ReplicaStands m rep (rules_at w i) (w.keys i) st in subst P (sym same) is.stands;
+      stands = let P : CoreState → Type 0 = λ st. ReplicaStands w.start m rep (rules_at w i) (w.keys i) st in subst P (sym same) is.stands;
       live = ap (λ st. st.live) same ∙ is.live;
     }
 
 called_replicas : {S E C : Type 0} (m : Meaning S E C KeyRow) (w : Setting) (states : ℕ → CoreState) (at : ℕ) (call : ReplicaCall) (replicas : List (Option (Replica S E C))) (old new : Replica S E C) →
     ReplicasStand m w states replicas → slice_get replicas at ≡ Some (Some old) → w.is_correct at ≡ true
-    → ReplicaStands m new (rules_at w at) (w.keys at) (handled_at w states (record { at = at; call = call })).state → (states at).live ≡ true
+    → ReplicaStands w.start m new (rules_at w at) (w.keys at) (handled_at w states (record { at = at; call = call })).state → (states at).live ≡ true
     → ReplicasStand m w (after_call w states (Some (record { at = at; call = call }))) (slice_set replicas at (Some new))
 called_replicas {S = S} {E = E} {C = C} m w states at call replicas old new stand there right stands live =
     let c : CallAt = record { at = at; call = call } in
@@ -150,7 +151,7 @@ called_replicas {S = S} {E = E} {C = C} m w states at call replicas old new stan
 -- the replica answered
 answered : {S E C : Type 0} (m : Meaning S E C KeyRow) (w : Setting) (states : ℕ → CoreState) (at : ℕ) (call : ReplicaCall) (replicas : List (Option (Replica S E C))) (old new : Replica S E C) (before after : List OutFrame) (answer : Result Answer Refusal) (result : Result Seen Mem) →
     ReplicasStand m w states replicas → slice_get replicas at ≡ Some (Some old)
-    → ((r : Rules) (k : KeyRow) (st : CoreState) → ReplicaStands m old r k st → Handles (ReplicaStands m) new call before after answer r k st)
+    → ((r : Rules) (k : KeyRow) (st : CoreState) → ReplicaStands w.start m old r k st → Handles (ReplicaStands w.start m) new call before after answer r k st)
     → result ≡ Ok (seen_answer answer) → CallsOr m w states (call_at w at call) (slice_set replicas at (Some new)) before after result
 answered {S = S} {E = E} {C = C} m w states at call replicas old new before after answer result stand there does saw =
     let is : IsReplica m w states at old = stand.each at (Some old) there in
@@ -175,19 +176,19 @@ wants m w states at call replicas old new before after (Err mem) stand there lef
 )
 
 -- it needed memory
-step_needs : {S E C : Type 0} (m : Meaning S E C KeyRow) (new : Replica S E C) (call : ReplicaCall) (before after : List OutFrame) (r : Rules) (k : KeyRow) (st : CoreState) →
-    ReplicaRunsOut (ReplicaStands m) new call before after r k st → CoreNeeds r st (core_call r k call)
-step_needs m new call before after r k st did =
+step_needs : {S E C : Type 0} (s : Start) (m : Meaning S E C KeyRow) (new : Replica S E C) (call : ReplicaCall) (before after : List OutFrame) (r : Rules) (k : KeyRow) (st : CoreState) →
+    ReplicaRunsOut (ReplicaStands s m) new call before after r k st → CoreNeeds r st (core_call r k call)
+step_needs s m new call before after r k st did =
     subst (CoreNeeds r st) (sym did.given) (core_needed r st did.what (elim did.state [ inl held ↦ inl held.0 | inr step ↦ inr step.0 ]))
 
-read_needs : {S E C : Type 0} (m : Meaning S E C KeyRow) (new : Replica S E C) (call : ReplicaCall) (before after : List OutFrame) (r : Rules) (k : KeyRow) (st : CoreState) →
-    ReadsNone (ReplicaStands m) new call before after r k st → CoreNeeds r st (core_call r k call)
-read_needs m new call before after r k st did =
+read_needs : {S E C : Type 0} (s : Start) (m : Meaning S E C KeyRow) (new : Replica S E C) (call : ReplicaCall) (before after : List OutFrame) (r : Rules) (k : KeyRow) (st : CoreState) →
+    ReadsNone (ReplicaStands s m) new call before after r k st → CoreNeeds r st (core_call r k call)
+read_needs s m new call before after r k st did =
     let given : core_call r k call ≡ Some (core.Frame did.item) = ap (core_call r k) did.frame ∙ ap (frame_given r) did.opens ∙ ap body_given did.spells in
     subst (CoreNeeds r st) (sym given) tt
 
 ran_out : {S E C : Type 0} (m : Meaning S E C KeyRow) (w : Setting) (states : ℕ → CoreState) (at : ℕ) (call : ReplicaCall) (old new : Replica S E C) (before after : List OutFrame) →
-    IsReplica m w states at old → ReplicaRunsOut (ReplicaStands m) new call before after (rules_at w at) (w.keys at) (states at)
+    IsReplica m w states at old → ReplicaRunsOut (ReplicaStands w.start m) new call before after (rules_at w at) (w.keys at) (states at)
     → IsLeft m w states (after_call w states (call_at w at call)) (call_at w at call) at new
 ran_out m w states at call old new before after is did = elim did.state [
   | inl held ↦ inl (record { correct = is.correct; stands = held.1; live = is.live })
@@ -207,18 +208,18 @@ ran_out m w states at call old new before after is did = elim did.state [
 
 -- each call on the replica at a place
 called : {S E C : Type 0} (m : Meaning S E C KeyRow) (w : Setting) (states : ℕ → CoreState) (at : ℕ) (call : ReplicaCall) (replicas : List (Option (Replica S E C))) (old new : Replica S E C) (before after : List OutFrame) (answer : Result Answer Refusal) (result : Result Seen Mem) →
-    ReplicasStand m w states replicas → slice_get replicas at ≡ Some (Some old) → ReplicaDoesAll (ReplicaStands m) old new call before after answer
+    ReplicasStand m w states replicas → slice_get replicas at ≡ Some (Some old) → ReplicaDoesAll (ReplicaStands w.start m) old new call before after answer
     → Sees answer result → CallsOr m w states (call_at w at call) (slice_set replicas at (Some new)) before after result
 called m w states at call replicas old new before after (Err (refusals.Core faults.Mem)) result stand there does saw =
     let is : IsReplica m w states at old = stand.each at (Some old) there in
-    let did : ReplicaRunsOut (ReplicaStands m) new call before after (rules_at w at) (w.keys at) (states at) = does (rules_at w at) (w.keys at) (states at) is.stands in
+    let did : ReplicaRunsOut (ReplicaStands w.start m) new call before after (rules_at w at) (w.keys at) (states at) = does (rules_at w at) (w.keys at) (states at) is.stands in
     wants m w states at call replicas old new before after result stand there (ran_out m w states at call old new before after is did)
-    (step_needs m new call before after (rules_at w at) (w.keys at) (states at) did) saw
+    (step_needs w.start m new call before after (rules_at w at) (w.keys at) (states at) did) saw
 called m w states at call replicas old new before after (Err (refusals.Body body.Mem)) result stand there does saw =
     let is : IsReplica m w states at old = stand.each at (Some old) there in
-    let did : ReadsNone (ReplicaStands m) new call before after (rules_at w at) (w.keys at) (states at) = does (rules_at w at) (w.keys at) (states at) is.stands in
+    let did : ReadsNone (ReplicaStands w.start m) new call before after (rules_at w at) (w.keys at) (states at) = does (rules_at w at) (w.keys at) (states at) is.stands in
     wants m w states at call replicas old new before after result stand there
-    (inl (record { correct = is.correct; stands = did.state; live = is.live })) (read_needs m new call before after (rules_at w at) (w.keys at) (states at) did) saw
+    (inl (record { correct = is.correct; stands = did.state; live = is.live })) (read_needs w.start m new call before after (rules_at w at) (w.keys at) (states at) did) saw
 called m w states at call replicas old new before after answer result stand there does saw =
     answered m w states at call replicas old new before after answer result stand there does saw
 
@@ -227,7 +228,7 @@ called m w states at call replicas old new before after answer result stand ther
 -- a call where a replica is
 pub called_at : {S E C : Type 0} (m : Meaning S E C KeyRow) (w : Setting) (states : ℕ → CoreState) (at place : ℕ) (call : ReplicaCall) (replicas : List (Option (Replica S E C))) (here : Option (Replica S E C)) (old new : Replica S E C) (before after : List OutFrame) (answer : Result Answer Refusal) (result : Result Seen Mem) →
     ReplicasStand m w states replicas → place ≡ at → place < length replicas → slice_index_or replicas place here ≡ Some old
-    → ReplicaDoesAll (ReplicaStands m) old new call before after answer → Sees answer result
+    → ReplicaDoesAll (ReplicaStands w.start m) old new call before after answer → Sees answer result
     → CallsOr m w states (call_at w at call) (slice_set replicas place (Some new)) before after result
 called_at m w states at place call replicas here old new before after answer result stand e within old_is does saw =
     let there : slice_get replicas place ≡ Some (Some old) = slice_get-get_or replicas place here within ∙ ap (λ x. Some x) old_is in

@@ -16,6 +16,7 @@ use Rattle.ritas_core.specs.Rules.{Rules, HasForm, at_slot_of}
 use Rattle.ritas_core.specs.Machine.{first_state}
 use Rattle.ritas_core.specs.Stands.{Meaning}
 use Rattle.replica.specs.declared.replica.Replica.{Replica}
+use Rattle.command_log.specs.Rows.{Start, alone}
 use Rattle.replica.specs.Replica.{ReplicaStands}
 use Rattle.world_model.specs.declared.seats.Seats.{Seats}
 use Rattle.world_model.specs.World.{Setting, rules_at, states_of}
@@ -75,12 +76,13 @@ first_place : {S E C : Type 0} (m : Meaning S E C KeyRow) (p : Numbers) (root : 
 unfolding states_of
 first_place m p root members rows coins w i k coin None tags is own row_is coin_is first = is.correct i ∙ ap (has_member members) (sym own) ∙ first
 first_place m p root members rows coins w i k coin (Some rep) tags is own row_is coin_is first =
-    let P : Rules → Type 0 = λ r. ReplicaStands m rep r (w.keys i) (first_state (replicate w.numbers.n [])) in
-    let Q : KeyRow → Type 0 = λ x. ReplicaStands m rep (rules_with m p root k coin) x (first_state (replicate w.numbers.n [])) in
-    let R : Numbers → Type 0 = λ x. ReplicaStands m rep (rules_with m p root k coin) k (first_state (replicate x.n [])) in
+    let P : Rules → Type 0 = λ r. ReplicaStands alone m rep r (w.keys i) (first_state (replicate w.numbers.n [])) in
+    let Q : KeyRow → Type 0 = λ x. ReplicaStands alone m rep (rules_with m p root k coin) x (first_state (replicate w.numbers.n [])) in
+    let T : Start → Type 0 = λ s. ReplicaStands s m rep (rules_at w i) (w.keys i) (first_state (replicate w.numbers.n [])) in
+    let R : Numbers → Type 0 = λ x. ReplicaStands alone m rep (rules_with m p root k coin) k (first_state (replicate x.n [])) in
     record {
       correct = is.correct i ∙ ap (has_member members) (sym own) ∙ first.0;
-      stands = subst P (first_rules m p root members rows coins w i k coin tags is own row_is coin_is) (subst Q (sym (is.keys i k row_is)) (subst R (sym is.numbers) first.1));
+      stands = subst T (sym is.start) (subst P (first_rules m p root members rows coins w i k coin tags is own row_is coin_is) (subst Q (sym (is.keys i k row_is)) (subst R (sym is.numbers) first.1)));
       live = refl;
     }
 

@@ -10,6 +10,7 @@ use Rattle.ritas_core.specs.Rules.{Rules, route_of}
 use Rattle.ritas_core.specs.Checks.{IsHistory}
 use Rattle.ritas_core.specs.Machine.{CoreState}
 use Rattle.ritas_core.specs.Parts.{Entry}
+use Rattle.command_log.specs.Rows.{Start}
 use Rattle.replica.specs.CommandRows as replica
 use Rattle.replica.proofs.Growing.{rows_grow, part_itself}
 use Rattle.world_model.specs.World.{Setting, rules_at, CallAt, call_of, handled_at, after_call, states_of, states_before}
@@ -66,13 +67,13 @@ called_other w states (Some c) i correct faulty = here (c.at == i) refl
     here true same = absurd (both_ways (w.is_correct i) faulty (subst (λ (k : ℕ). w.is_correct k ≡ true) (eqb-true c.at i same) correct))
     here false other = refl
 
-rows_grew : (r : Rules) → IsFounded r → (h now : List Entry) → IsHistory r h → IsHistory r now → Grew h now → IsPart (replica.history_rows r h) (replica.history_rows r now)
-rows_grew r laws h now met later (inl same) =
-    subst (λ (x : List Entry). IsPart (replica.history_rows r h) (replica.history_rows r x)) (sym same) (part_itself (replica.history_rows r h))
-rows_grew r laws h now met later (inr more) =
+rows_grew : (s : Start) (r : Rules) → IsFounded r → (h now : List Entry) → IsHistory r h → IsHistory r now → Grew h now → IsPart (replica.history_rows s r h) (replica.history_rows s r now)
+rows_grew s r laws h now met later (inl same) =
+    subst (λ (x : List Entry). IsPart (replica.history_rows s r h) (replica.history_rows s r x)) (sym same) (part_itself (replica.history_rows s r h))
+rows_grew s r laws h now met later (inr more) =
     let proper = laws.core.proper r laws.layers h met in
     let after = laws.core.proper r laws.layers (more.0 ∷ h) (subst (λ (x : List Entry). IsHistory r x) more.1 later) in
-    subst (λ (x : List Entry). IsPart (replica.history_rows r h) (replica.history_rows r x)) (sym more.1) (rows_grow r laws.layers more.0 h proper after)
+    subst (λ (x : List Entry). IsPart (replica.history_rows s r h) (replica.history_rows s r x)) (sym more.1) (rows_grow r laws.layers more.0 h proper after s)
 
 -- ---- logs
 
@@ -84,12 +85,12 @@ module _ (w : Setting) (founds : IsLaid w) (within : (i : ℕ) → w.is_correct 
       here : (b : Bool) → w.is_correct i ≡ b → IsPart (rows_at w es i) (rows_at w (e ∷ es) i)
       here true correct =
           let below = within i correct in
-          rows_grew (rules_at w i) (founds.founded i below) (history_of w es i) (history_of w (e ∷ es) i)
+          rows_grew w.start (rules_at w i) (founds.founded i below) (history_of w es i) (history_of w (e ∷ es) i)
           (well_after w founds es i below).met (well_after w founds (e ∷ es) i below).met
           (called_grew w (states_before w es) (call_of w (states_before w es) e) i)
       here false faulty =
           let same : history_of w (e ∷ es) i ≡ history_of w es i = called_other w (states_before w es) (call_of w (states_before w es) e) i (event_at w (states_before w es) e) faulty in
-          subst (λ (h : List Entry). IsPart (rows_at w es i) (replica.history_rows (rules_at w i) h)) (sym same) (part_itself (rows_at w es i))
+          subst (λ (h : List Entry). IsPart (rows_at w es i) (replica.history_rows w.start (rules_at w i) h)) (sym same) (part_itself (rows_at w es i))
 
   rows_later : (more es : List Event) (i : ℕ) → IsPart (rows_at w es i) (rows_at w (more ++ es) i)
   rows_later [] es i = part_itself (rows_at w es i)

@@ -17,7 +17,7 @@ use Rattle.layer_api.specs.Words.{Word, is_heard, value_at}
 use Rattle.layer_api.specs.FedLaws.{heard_met}
 use Rattle.layer_api.specs.PartLaws.{heard_is}
 use Rattle.command_log.specs.Rows.{Row, row_of, is_same_command, is_origin, count_origins, entries_of_log, IsIn, HasRow}
-use Rattle.command_log.specs.Laws.{command_part, row_is, row_confirmed, one_from, IsOriginOf, origin_is}
+use Rattle.command_log.specs.Laws.{chain_part, own_is, own_confirmed, one_from, IsOriginOf, origin_is}
 use Rattle.ritas_core.specs.Rules.{seat_of}
 use Rattle.ritas_core.specs.HeardLaws.{heard_delivered}
 use Rattle.world_model.specs.declared.audit.Audit.TheVariants.{Holds}
@@ -25,7 +25,7 @@ use Rattle.world_model.specs.World.{Setting, rules_at}
 use Rattle.world_model.specs.Audit.{has_too_many, first_broken, audit_of}
 use Rattle.ritas_core.specs.Parts.{Entry, Took, Given}
 use Rattle.world_model.specs.OneValueEach.{count_inputs, input_at, history_of, OneValueEach}
-use Rattle.world_model.specs.Agree.{words_of, identifier_log, command_delivered, rows_at, OneIsPart, HasInput, IsSubmitted, IsConfirmed}
+use Rattle.world_model.specs.Agree.{words_of, identifier_log, command_delivered, rows_at, own_rows_at, OneIsPart, HasInput, IsSubmitted, IsConfirmed}
 use Rattle.world_model.proofs.Worlds.{layer_laws, world_after}
 use Rattle.world_model.proofs.Law.{audit_parts, enough_of}
 use Rattle.world_model.proofs.Below.{IsSoundOver}
@@ -102,7 +102,7 @@ module _ (w : Setting) (es : List Event) (sound : IsSoundOver w) (holds : audit_
   rows_part : (i j : ℕ) → w.is_correct i ≡ true → w.is_correct j ≡ true → IsPart (identifier_log w es i) (identifier_log w es j)
       → IsPart (rows_at w es i) (rows_at w es j)
   rows_part i j left right part =
-      command_part w.numbers.f (command_delivered w es i) (command_delivered w es j) (identifier_log w es i) (identifier_log w es j) part
+      chain_part w.start w.numbers.f (command_delivered w es i) (command_delivered w es j) (identifier_log w es i) (identifier_log w es j) part
       (λ x here. same_command i j left right x here (in_part x (identifier_log w es i) (identifier_log w es j) part here))
 
   -- of two replicas' rows one is a part of the other, as of their identifier logs
@@ -112,10 +112,10 @@ module _ (w : Setting) (es : List Event) (sound : IsSoundOver w) (holds : audit_
   rows_one i j left right (inr part) = inr (rows_part j i right left part)
 
   -- a row of a correct origin was submitted there
-  pub row_submitted : (i : ℕ) (r : Row) → w.is_correct i ≡ true → w.is_correct r.id.origin ≡ true → HasRow (rows_at w es i) r
+  pub row_submitted : (i : ℕ) (r : Row) → w.is_correct i ≡ true → w.is_correct r.id.origin ≡ true → HasRow (own_rows_at w es i) r
       → IsSubmitted w es r
   row_submitted i r correct good here =
-      let x = row_is w.numbers.f (command_delivered w es i) (identifier_log w es i) r here in
+      let x = own_is w.start w.numbers.f (command_delivered w es i) (identifier_log w es i) r here in
       let same : x.id ≡ r.id = ap (λ (q : Row). q.id) x.row in
       let v = has_command i correct x.id x.listed in
       let of : command_delivered w es i r.id ≡ Some v.0 = ap (command_delivered w es i) (sym same) ∙ v.1 in
@@ -156,12 +156,12 @@ module _ (w : Setting) (es : List Event) (sound : IsSoundOver w) (holds : audit_
       }
 
   -- of the origins of a row's command one is correct, and had it as an input
-  pub row_confirmed_at : (i : ℕ) (r : Row) → w.is_correct i ≡ true → HasRow (rows_at w es i) r → IsConfirmed w es r
+  pub row_confirmed_at : (i : ℕ) (r : Row) → w.is_correct i ≡ true → HasRow (own_rows_at w es i) r → IsConfirmed w es r
   row_confirmed_at i r correct here =
       let n = w.numbers.n in
       let entries = entries_of_log (command_delivered w es i) (identifier_log w es i) in
       let enough = enough_of w sound (audit_parts (has_too_many w) (first_broken w es) holds).0 in
-      let many = row_confirmed w.numbers.f entries r here in
+      let many = own_confirmed w.start w.numbers.f entries r here in
       let from : (k : ℕ) → is_origin entries r k ≡ true → IsOriginOf (command_delivered w es i) (identifier_log w es i) r k = origin_is (command_delivered w es i) (identifier_log w es i) r in
       let below : (k : ℕ) → n ≤ k → is_origin entries r k ≡ false =
       λ k far. false_from_ne_true (is_origin entries r k) (λ is.

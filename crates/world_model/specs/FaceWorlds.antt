@@ -1,5 +1,5 @@
--- The faces of one letter are a world of their own: the same layers and keys, with the faulty replicas, which are below n, in
--- the place of the correct ones.
+-- The faces of one letter are a world of their own: the same layers, keys and start of the logs, with the faulty replicas, which
+-- are below n, in the place of the correct ones.
 use Rattle.std.specs.Prelude.{◌≡◌, ◌≢◌, ℕ, ◌<◌, ◌^◌, ◌%◌, ◌==◌, ◌&&◌, nat_lt, Bool, false, not, List, [], ◌∷◌, ◌++◌, length, Option, Some, None, if◌then◌else◌}
 use Rattle.std.specs.List.{slice_get}
 use Rattle.ritas_base.specs.declared.event.Event.{Event}
@@ -25,6 +25,7 @@ faces_world w = record {
   coin = w.coin;
   keys = w.keys;
   stops = λ k i. false;
+  start = w.start;
 }
 
 -- a letter gives each replica one face

@@ -16,7 +16,7 @@ use Rattle.ritas_base.specs.declared.mode.Vect.TheVariants.{Reliable}
 use Rattle.ritas_base.specs.declared.mode.FrameVersion.TheVariants.{One, Two, Three}
 use Rattle.layer_api.specs.Entries.{EntryInput, OfMessage, OfEntry}
 use Rattle.layer_api.specs.Service.{ServiceRules, Carries, Undecided, IsPart}
-use Rattle.command_log.specs.Rows.{count_origins, Row, command_rows}
+use Rattle.command_log.specs.Rows.{count_origins, Row, alone, command_rows}
 use Rattle.keyed_channel.specs.Frames.{sealed}
 use Rattle.keyed_channel.specs.declared.frame.OpenFault.TheVariants.{Short}
 use Rattle.reliable_bcast.specs.Bracha.{bracha}
@@ -66,6 +66,7 @@ world_of right = record {
   coin = λ i s. false;
   keys = λ i. record { session = 5; n = 4; me = i; row = []; version = One };
   stops = λ k i. k == 0 && i == 1;
+  start = alone;
 }
 
 -- ---- what an event is to a replica

@@ -1,5 +1,5 @@
 -- What a row of a correct replica's log is like, in every world of one service and one broadcast.
-use Rattle.std.specs.Prelude.{◌≡◌, ℕ, ◌*◌, ◌<◌, ◌≤◌, true, List, length}
+use Rattle.std.specs.Prelude.{◌≡◌, ℕ, ◌+◌, ◌*◌, ◌<◌, ◌≤◌, true, List, length}
 use Rattle.ritas_base.specs.declared.event.Event.{Event}
 use Rattle.ritas_base.specs.Limits.{number_limit, longest_payload}
 use Rattle.layer_api.specs.Broadcast.{BroadcastRules}
@@ -15,12 +15,16 @@ pub record IsOfCommand (n : ℕ) (r : Row) : Type 0 where
   pub num : r.id.num < number_limit
   pub payload : length r.payload ≤ longest_payload
 
--- each row is, and there are not more than identifiers
-pub record RowsAreOfCommands (n : ℕ) (rs : List Row) : Type 0 where
-  pub each : (r : Row) → HasRow rs r → IsOfCommand n r
-  pub few : length rs ≤ 31 * number_limit
+-- each row is
+abbrev pub AreOfCommands : ℕ → List Row → Type 0
+AreOfCommands n rs = (r : Row) → HasRow rs r → IsOfCommand n r
 
--- the law that so it is at each correct replica, whatever the audit says
+-- each row is, and above so many, those of the base, there are not more than identifiers
+pub record RowsAreOfCommands (n base_len : ℕ) (rs : List Row) : Type 0 where
+  pub each : AreOfCommands n rs
+  pub few : length rs ≤ base_len + 31 * number_limit
+
+-- the law that so it is at each correct replica, whatever the audit says, where the rows of the base are so
 abbrev pub RowsFit : ServiceRules → BroadcastRules → Type 0
 RowsFit service other = (w : Setting) (es : List Event) (i : ℕ) → IsWorld service other w → w.is_correct i ≡ true
-    → RowsAreOfCommands w.numbers.n (rows_at w es i)
+    → AreOfCommands w.numbers.n w.start.base → RowsAreOfCommands w.numbers.n (length w.start.base) (rows_at w es i)

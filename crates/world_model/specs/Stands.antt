@@ -17,6 +17,7 @@ use Rattle.replica.specs.declared.replica.Replica.{Replica}
 use Rattle.replica.specs.Frames.{made_for}
 use Rattle.replica.specs.Handling.{ReplicaCall}
 use Rattle.replica.specs.Stands.{core_call}
+use Rattle.command_log.specs.Rows.{alone}
 use Rattle.replica.specs.Replica.{ReplicaStands}
 use Rattle.world_model.specs.declared.seats.Seats.{Seats}
 use Rattle.world_model.specs.declared.seen.Seen.{Seen}
@@ -43,7 +44,7 @@ AreOfVersion version keys = (i : ℕ) (k : KeyRow) → slice_get keys i ≡ Some
 abbrev pub NoneStops : Setting → Type 0
 NoneStops w = (k i : ℕ) → w.stops k i ≡ false
 
--- the world of these numbers, mode, correct replicas, and keys and coins of each replica
+-- the world of these numbers, mode, correct replicas, and keys and coins of each replica: a session by itself
 pub record IsWorldOf {S E C : Type 0} (m : Meaning S E C KeyRow) (p : Numbers) (root : Mode) (members : ℕ)
     (rows : List KeyRow) (all_coins : List C) (w : Setting) : Type 0 where
   pub numbers : w.numbers ≡ p
@@ -54,6 +55,7 @@ pub record IsWorldOf {S E C : Type 0} (m : Meaning S E C KeyRow) (p : Numbers) (
   pub keys : (i : ℕ) (k : KeyRow) → slice_get rows i ≡ Some k → w.keys i ≡ k
   pub coins : (i : ℕ) (coin : C) → slice_get all_coins i ≡ Some coin → w.coin i ≡ m.bits coin
   pub going : NoneStops w
+  pub start : w.start ≡ alone
 
 -- ---- what a world stands for
 
@@ -70,7 +72,7 @@ pub record SeatsStand (w : Setting) (seats : Seats) : Type 0 where
 pub record IsReplica {S E C : Type 0} (m : Meaning S E C KeyRow) (w : Setting) (states : ℕ → CoreState) (i : ℕ)
     (rep : Replica S E C) : Type 0 where
   pub correct : w.is_correct i ≡ true
-  pub stands : ReplicaStands m rep (rules_at w i) (w.keys i) (states i)
+  pub stands : ReplicaStands w.start m rep (rules_at w i) (w.keys i) (states i)
   pub live : (states i).live ≡ true
 
 -- there is no replica where it is faulty
@@ -138,7 +140,7 @@ pub record IsStoppedBy {S E C : Type 0} (m : Meaning S E C KeyRow) (w : Setting)
     (rep : Replica S E C) : Type 0 where
   pub correct : w.is_correct i ≡ true
   pub taking : IsTaking w state c i
-  pub stands : ReplicaStands m rep (rules_at w i) (w.keys i) (stopped state taking.what)
+  pub stands : ReplicaStands w.start m rep (rules_at w i) (w.keys i) (stopped state taking.what)
 
 -- a correct replica as it was before a call that was without memory, or as it was to be after it, or stopped by it
 abbrev pub IsLeft : {S E C : Type 0} → Meaning S E C KeyRow → Setting → (ℕ → CoreState) → (ℕ → CoreState) → Option CallAt → ℕ → Replica S E C → Type 0

@@ -24,6 +24,7 @@ use Rattle.replica.specs.Out.{OutFrame}
 use Rattle.replica.specs.declared.refusal.Refusal.{Refusal}
 use Rattle.replica.specs.declared.refusal.Refusal.TheVariants as refusals
 use Rattle.replica.specs.declared.replica.Replica.{Replica}
+use Rattle.command_log.specs.Rows.{alone}
 use Rattle.replica.specs.Replica.{ReplicaStands}
 use Rattle.world_model.specs.declared.happened.Happened.{Happened}
 use Rattle.world_model.specs.declared.seen.Seen.{Seen}
@@ -41,11 +42,11 @@ abbrev pub rules_with : {S E C : Type 0} → Meaning S E C KeyRow → Numbers �
 rules_with m p root k coin =
     record { mode = root; casts = casts_by root p k.me (m.tags k) m.cast; coin = m.bits coin; service = m.service }
 
--- the replica with these keys and this coin before any call, where it is correct
+-- the replica with these keys and this coin before any call, where it is correct; its log of commands begins at nothing
 abbrev pub IsFirstReplica : {S E C : Type 0} → Meaning S E C KeyRow → Numbers → Mode → ℕ → KeyRow → C → Option (Replica S E C) → Type 0
 IsFirstReplica m p root members k coin None = has_member members k.me ≡ false
 IsFirstReplica m p root members k coin (Some rep) =
-    (has_member members k.me ≡ true) × ReplicaStands m rep (rules_with m p root k coin) k (first_state (replicate p.n []))
+    (has_member members k.me ≡ true) × ReplicaStands alone m rep (rules_with m p root k coin) k (first_state (replicate p.n []))
 
 -- there is a place for each of these coins, with the keys and the coin of its number
 pub record AreFirstReplicas {S E C : Type 0} (m : Meaning S E C KeyRow) (p : Numbers) (root : Mode) (members : ℕ)

@@ -11,6 +11,7 @@ use Rattle.layer_api.specs.Service.{ServiceRules}
 use Rattle.keyed_channel.specs.KeyRow.{KeyRow}
 use Rattle.keyed_channel.specs.Keyed.{tags_of}
 use Rattle.keyed_channel.specs.Frames.{sealed}
+use Rattle.command_log.specs.Rows.{Start}
 use Rattle.ritas_core.specs.declared.answer.Answer.{Answer}
 use Rattle.ritas_core.specs.Rules.{Rules}
 use Rattle.ritas_core.specs.Parts.{Entry}
@@ -22,7 +23,8 @@ use Rattle.world_model.specs.declared.seen.Seen.{Seen}
 use Rattle.world_model.specs.declared.seen.Seen.TheVariants as seen_as
 
 -- a world: its numbers and mode, which replicas are correct, what the layers mean, the replicas' coins and their keys, and
--- which replicas are stopped before the event of a number, from 0
+-- which replicas are stopped before the event of a number, from 0; and where the logs of commands begin: at nothing in a session by
+-- itself, and in an epoch of a chain with the rows of the epochs before
 pub record Setting : Type 0 where
   pub numbers : Numbers
   pub mode : Mode
@@ -32,6 +34,7 @@ pub record Setting : Type 0 where
   pub coin : ℕ → Slot → Bool
   pub keys : ℕ → KeyRow
   pub stops : ℕ → ℕ → Bool
+  pub start : Start
 
 -- what the layers of replica i mean
 abbrev pub rules_at : Setting → ℕ → Rules

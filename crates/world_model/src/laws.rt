@@ -59,8 +59,10 @@ pub fn prefix_holds()
 ///   as `one_value_each` says.
 /// - *Prefixes of one list*: of the logs of any two correct replicas one is a prefix of the other, so all are prefixes of
 ///   the longest. It is so of the identifier logs too, where each identifier stands once.
-/// - *Each command once*: a log has one row for each client and request.
-/// - *Submitted at a correct replica*: a row has the client, the request and the payload of an input of some correct
+/// - *Each command once*: a log has one row for each client and request, where it is so in the base.
+/// - *Above a base*: a log is the rows that it began with, of the epochs of a chain before its own, and above these the rows that
+///   its replica entered. In a session by itself it began with none.
+/// - *Submitted at a correct replica*: a row above the base has the client, the request and the payload of an input of some correct
 ///   replica, since f + 1 replicas broadcast that command. Where its identifier's origin is correct, they are those of that
 ///   replica's input of the identifier's number, from 0.
 /// - *Any instance*: at each slot of a broadcast they deliver one value, as `one_value_each` says; what became of their one
@@ -145,8 +147,8 @@ pub fn logs_grow<S: Service, E: Broadcast>()
 }
 
 /// In every world with this service and this broadcast beside the reliable one each row of a correct replica's log is of a command of the
-/// session, whatever the audit says: its origin is one of the n replicas, its number is below 1,000,000, and its payload has at most 4,088
-/// bytes. There are at most 31,000,000 rows.
+/// session, whatever the audit says, where those of the base are: its origin is one of the n replicas, its number is below 1,000,000, and
+/// its payload has at most 4,088 bytes. There are at most 31,000,000 rows above the base.
 ///
 /// It does nothing: its contract is the law.
 pub fn rows_fit<S: Service, E: Broadcast>()

@@ -45,8 +45,8 @@ impl<S: Service, E: Broadcast, C: Coin + Drop> World<S, E, C> {
     ghost use Rattle.world_model.specs.Stands.{AreKeys, AreOfVersion, IsWorldOf, IsReplica, AreMembers, AreMembersLeft, frames_between, WorldStands, IsLeft, WorldStopped, is_world_live, EventDoes};
     ghost use Rattle.ritas_base.specs.Events.{MayHappen};
 
-    /// The world of these numbers, mode, correct replicas, and keys and coins of each replica, before any event. The keys
-    /// are of the mode's version of frames. Those of a faulty replica serve for frames that events seal with them; its coin
+    /// The world of these numbers, mode, correct replicas, and keys and coins of each replica, before any event: a session by
+    /// itself, whose logs of commands begin at nothing. The keys are of the mode's version of frames. Those of a faulty replica serve for frames that events seal with them; its coin
     /// isn't used. The one error is want of memory.
     pub fn new(
         alloc: Global,

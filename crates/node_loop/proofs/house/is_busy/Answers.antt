@@ -5,5 +5,5 @@ use Rattle.node_loop.proofs.house.is_busy.Goals as goal
 pub returns : goal.returns
 returns g c = record {
   busy = λ w states i is.
-      busy_is c.inbox_len.result (states i).inbox (c.inbox_len.ensures (rules_at w i) (states i) (c.core.ensures.live (rules_at w i) (w.keys i) (states i) is.stands is.live));
+      busy_is c.inbox_len.result (states i).inbox (c.inbox_len.ensures (rules_at w i) (states i) (c.core.ensures.live w.start (rules_at w i) (w.keys i) (states i) is.stands is.live));
 }

@@ -9,6 +9,6 @@ mark_with progress held = record { progress = progress; held = held }
 pub returns : goal.returns
 returns g c = record {
   mark = λ w es i kind is.
-      let core = c.core.ensures.live (rules_at w i) (w.keys i) (states_of w es i) is.stands is.live in
+      let core = c.core.ensures.live w.start (rules_at w i) (w.keys i) (states_of w es i) is.stands is.live in
       ap₂ mark_with (c.progress_of.ensures.progress w es i kind is) (c.held_of.ensures (rules_at w i) (states_of w es i) core);
 }

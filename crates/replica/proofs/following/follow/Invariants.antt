@@ -16,8 +16,9 @@ use Rattle.replica.proofs.following.follow.Given as goal
 -- the log after the first i identifiers
 pub record HasFollowed {S E C : Type 0} (m : Meaning S E C KeyRow) (core : Core S E C KeyRow) (ids : List Id) (i : ℕ) (old now : Ledger) : Type 0 where
   pub f : now.f ≡ old.f
+  pub start : now.start ≡ old.start
   pub stands : (r : Rules) (st : CoreState) → CoreStands m core r st → st.live ≡ true → AllByRecursion (HasCommand r st.history) ids
-      → (xs : List Id) → length xs + length ids < 4294967295 → StandsFor old (entries_of_log (command_of r st.history) xs)
+      → (xs : List Id) → length old.start.base + length xs + length ids < 4294967295 → StandsFor old (entries_of_log (command_of r st.history) xs)
       → StandsFor now (entries_of_log (command_of r st.history) (first_ids ids i xs))
 
 abbrev pub invariant-loop-id : goal.invariant-loop-id

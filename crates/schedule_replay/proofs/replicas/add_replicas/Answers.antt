@@ -17,7 +17,7 @@ loop-i-preserved g c = λ w es stands n cores.
     elim c.match-replica.branch [
       | in-Some+in_ok-add_lines-in-Some x ↦
           let is = rw x.in-Some.is at at in
-          let more = x.in_ok-add_lines-in-Some.ensures (rules_at w i) (w.keys i) (states_of w es i) is.stands is.live (cores i is.correct) in
+          let more = x.in_ok-add_lines-in-Some.ensures w.start (rules_at w i) (w.keys i) (states_of w es i) is.stands is.live (cores i is.correct) in
           written_next (string_bytes c.args.text.now) (string_bytes c.loop-i.text) (string_bytes c.match-replica.text) line i so_far
           (ap string_bytes x.text-is ∙ (more ∙ ap (λ (l : List ℕ). string_bytes c.loop-i.text ++ l) (sym (chosen_in w.is_correct (lines_at c.args.lines w es) i is.correct))))
       | in-None x ↦

@@ -11,7 +11,7 @@ pub returns-in-Some : goal.returns-in-Some
 returns-in-Some g c = λ w states stand.
     called_at _ w states c.args.at c.from-place.result (Frame c.args.frame.now) c.args.replicas.now c.index-replicas-place.result c.in-Some.replica c.on_lazy_frame.new.self
     c.args.out.now.items c.on_lazy_frame.new.out.items c.on_lazy_frame.result c.seen.result
-    stand c.from-place.ensures (omega arith) c.in-Some.is c.on_lazy_frame.ensures.does c.seen.ensures
+    stand c.from-place.ensures (omega arith) c.in-Some.is (c.on_lazy_frame.ensures.does w.start) c.seen.ensures
 
 pub returns-in-None : goal.returns-in-None
 returns-in-None g c = λ w states stand.

@@ -11,7 +11,7 @@ pub returns-in-Some : goal.returns-in-Some
 returns-in-Some g c = λ w states stand.
     called_at _ w states c.args.at c.from-place.result Turn c.args.replicas.now c.index-replicas-place.result c.in-Some.replica c.on_turn_lazily.new.self
     c.args.out.now.items c.on_turn_lazily.new.out.items c.on_turn_lazily.result c.seen.result
-    stand c.from-place.ensures (omega arith) c.in-Some.is c.on_turn_lazily.ensures c.seen.ensures
+    stand c.from-place.ensures (omega arith) c.in-Some.is (c.on_turn_lazily.ensures w.start) c.seen.ensures
 
 pub returns-in-None : goal.returns-in-None
 returns-in-None g c = λ w states stand.

@@ -23,7 +23,7 @@ returns-in-Some-clause-is g c =
     (λ front found. λ w states mode stand right.
     let there = replica_there _ w states c.args.at c.from-place.result c.args.replicas.now c.index-replicas-place.result c.in-Some.replica stand c.from-place.ensures
     (omega (arith, c.if-place-replicas.false)) (sym c.index-replicas-place.is ∙ c.in-Some.is) in
-    let core = c.core.ensures.live (rules_at w c.args.at) (w.keys c.args.at) (states c.args.at) there.stands there.live in
+    let core = c.core.ensures.live w.start (rules_at w c.args.at) (w.keys c.args.at) (states c.args.at) there.stands there.live in
     front_is w states c.args.at c.args.mode.now front (option_copied c.inbox_front.result) mode core.good_inbox (c.inbox_front.ensures (rules_at w c.args.at) (states c.args.at) core) found)
     c.watched.result c.watched.ensures.is
 
@@ -38,6 +38,6 @@ returns-in-Some-clause-only g c =
     (λ some. λ w states stand.
     let there = replica_there _ w states c.args.at c.from-place.result c.args.replicas.now c.index-replicas-place.result c.in-Some.replica stand c.from-place.ensures
     (omega (arith, c.if-place-replicas.false)) (sym c.index-replicas-place.is ∙ c.in-Some.is) in
-    let core = c.core.ensures.live (rules_at w c.args.at) (w.keys c.args.at) (states c.args.at) there.stands there.live in
+    let core = c.core.ensures.live w.start (rules_at w c.args.at) (w.keys c.args.at) (states c.args.at) there.stands there.live in
     (there.correct, front_waits (states c.args.at).inbox (ap is_some (sym (c.inbox_front.ensures (rules_at w c.args.at) (states c.args.at) core)) ∙ some)))
     c.watched.ensures.only

@@ -13,7 +13,7 @@ pub returns-in-Some-clause-enters : goal.returns-in-Some-clause-enters
 returns-in-Some-clause-enters g c = λ w es numbers ws p stand number.
     let at = c.args.output.now.at in
     let is = read_at _ w es numbers c.args.self.now.replicas.items c.deref.result.now c.args.place at c.in-Some.replica.now stand.here c.deref.ensures.value number c.in-Some.ensures.lookup.3.0 c.in-Some.ensures.lookup.1 in
-    let rows : c.log.result.now.rows ≡ rows_at w es at = log_at _ w es at c.in-Some.replica.now c.log.result.now.rows is c.log.ensures.live in
+    let rows : c.log.result.now.rows ≡ rows_at w es at = log_at _ w es at c.in-Some.replica.now c.log.result.now.rows is (c.log.ensures.live w.start) in
     on_ok_weaker c.enter_rows.result
     (λ entered. (
       wait_else _ w es numbers c.args.self.now (record { replicas = c.args.self.now.replicas; waiting = c.enter_rows.new.waiting; keepers = c.args.self.now.keepers }) ws (waiting_left_by at c.args.count (rows_at w es at) ws) p stand refl refl
@@ -26,7 +26,7 @@ pub returns-in-Some-clause-memory : goal.returns-in-Some-clause-memory
 returns-in-Some-clause-memory g c = λ w es numbers ws p stand number.
     let at = c.args.output.now.at in
     let is = read_at _ w es numbers c.args.self.now.replicas.items c.deref.result.now c.args.place at c.in-Some.replica.now stand.here c.deref.ensures.value number c.in-Some.ensures.lookup.3.0 c.in-Some.ensures.lookup.1 in
-    let rows : c.log.result.now.rows ≡ rows_at w es at = log_at _ w es at c.in-Some.replica.now c.log.result.now.rows is c.log.ensures.live in
+    let rows : c.log.result.now.rows ≡ rows_at w es at = log_at _ w es at c.in-Some.replica.now c.log.result.now.rows is (c.log.ensures.live w.start) in
     let P : List Row → Type 0 = λ x. OnErr c.enter_rows.result (replies_by at c.args.count x ws ≢ []) in
     subst P rows (c.enter_rows.ensures.memory ws stand.waiting)
 

@@ -10,7 +10,7 @@ loop-replica-init g c = λ w es numbers stand. fresh_first w.mode.version w.numb
 pub loop-replica-preserved : goal.loop-replica-preserved
 loop-replica-preserved g c = λ w es numbers stand.
     fresh_next _ w es numbers c.deref-replica-items.result.now c.loop-replica.replica-index c.replica-item.result c.version_of.result c.n.result c.in_ok-new.field-0 c.loop-replica.keepers.items c.push.new.self.items
-    stand c.loop-replica-test.true c.replica-item.is (λ r row st stands. c.n.ensures.value ∙ ap (λ (k : KeyRow). k.n) (c.keys.ensures r row st stands))
+    stand c.loop-replica-test.true c.replica-item.is (λ r row st stands. c.n.ensures.value ∙ ap (λ (k : KeyRow). k.n) (c.keys.ensures w.start r row st stands))
     (λ i is. c.version_of.ensures.version w es i is)
     (c.loop-replica.invariant w es numbers stand) (record { version_is = c.in_ok-new.ensures.none.0; kept = c.in_ok-new.ensures.none.1; marks = c.in_ok-new.ensures.none.2; pending = c.in_ok-new.ensures.none.3 }) c.in_ok-push.ensures.items
 

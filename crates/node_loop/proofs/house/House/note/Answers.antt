@@ -17,7 +17,7 @@ returns-in-Some-get_mut-clause-comes g c = λ w es numbers ws p stand number cle
     let seq = c.in-Some-Ack.seq in
     let v = w.mode.version in
     let is = read_at _ w es numbers c.args.self.now.replicas.items c.deref.result.now c.args.place at c.in-Some.replica.now stand.here c.deref.ensures.value number c.in-Some.ensures.lookup.3.0 c.in-Some.ensures.lookup.1 in
-    let keys = c.channel.ensures (rules_at w at) (w.keys at) (states_of w es at) is.stands in
+    let keys = c.channel.ensures w.start (rules_at w at) (w.keys at) (states_of w es at) is.stands in
     let said : noted (w.keys at) c.args.bytes.now ≡ Some (Ack from seq) =
     sym (c.open_note.ensures ∙ ap (λ (k : KeyRow). noted k c.args.bytes.now) keys) ∙ c.in-Some-Ack.is ∙ ap (λ x. Some x) c.in-Some-Ack.field-0-is in
     let peer = ((c.noted_from_peer.ensures (w.keys at) c.args.bytes.now).0 from seq said).0 in
@@ -38,7 +38,7 @@ returns-in-Some-get_mut-2-clause-comes g c = λ w es numbers ws p stand number c
     let seq = c.in-Some-Again.seq in
     let v = w.mode.version in
     let is = read_at _ w es numbers c.args.self.now.replicas.items c.deref.result.now c.args.place at c.in-Some.replica.now stand.here c.deref.ensures.value number c.in-Some.ensures.lookup.3.0 c.in-Some.ensures.lookup.1 in
-    let keys = c.channel.ensures (rules_at w at) (w.keys at) (states_of w es at) is.stands in
+    let keys = c.channel.ensures w.start (rules_at w at) (w.keys at) (states_of w es at) is.stands in
     let said : noted (w.keys at) c.args.bytes.now ≡ Some (Again from seq) =
     sym (c.open_note.ensures ∙ ap (λ (k : KeyRow). noted k c.args.bytes.now) keys) ∙ c.in-Some-Again.is ∙ ap (λ x. Some x) c.in-Some-Again.field-0-is in
     let peer = ((c.noted_from_peer.ensures (w.keys at) c.args.bytes.now).1 from seq said).0 in
@@ -57,7 +57,7 @@ returns-in-None-clause-comes g c = λ w es numbers ws p stand number clear.
     let at = c.args.output.now.at in
     let v = w.mode.version in
     let is = read_at _ w es numbers c.args.self.now.replicas.items c.deref.result.now c.args.place at c.in-Some.replica.now stand.here c.deref.ensures.value number c.in-Some.ensures.lookup.3.0 c.in-Some.ensures.lookup.1 in
-    let keys = c.channel.ensures (rules_at w at) (w.keys at) (states_of w es at) is.stands in
+    let keys = c.channel.ensures w.start (rules_at w at) (w.keys at) (states_of w es at) is.stands in
     let said : noted (w.keys at) c.args.bytes.now ≡ None = sym (c.open_note.ensures ∙ ap (λ (k : KeyRow). noted k c.args.bytes.now) keys) ∙ c.in-None.is in
     comes_with _ w es numbers _ c.args.output.now _ (nothing_more p) (noted_so v at p (noted (w.keys at) c.args.bytes.now)) (sym (ap (noted_so v at p) said))
     (nothing_comes _ w es numbers _ c.args.output.now ws p stand clear)

@@ -22,7 +22,7 @@ pub returns-clause-comes : goal.returns-clause-comes
 returns-clause-comes g c = λ w es numbers ws p stand number clear.
     let at = c.args.output.now.at in
     let is = read_at _ w es numbers c.args.self.now.replicas.items c.deref.result.now c.args.place at c.in-Some.replica.now stand.here c.deref.ensures.value number c.in-Some.ensures.lookup.3.0 c.in-Some.ensures.lookup.1 in
-    let rows = log_at _ w es at c.in-Some.replica.now c.log-log.result.now.rows is c.log-log.ensures.live in
+    let rows = log_at _ w es at c.in-Some.replica.now c.log-log.result.now.rows is (c.log-log.ensures.live w.start) in
     let said = c.in_ok-piece.ensures ∙ ap (λ l. piece_bytes (piece_of_log l c.args.position)) rows in
     on_ok_weaker c.reply.result
     (λ replied. only_replies _ w es numbers c.args.self.now c.args.output.now c.reply.new.output (reply at (piece_bytes (piece_of_log (rows_at w es at) c.args.position)) c.args.conn) ws p stand clear
@@ -34,14 +34,14 @@ pub returns-clause-fits : goal.returns-clause-fits
 returns-clause-fits g c = λ w es numbers stand number.
     let at = c.args.output.now.at in
     let is = read_at _ w es numbers c.args.self.now.replicas.items c.deref.result.now c.args.place at c.in-Some.replica.now stand c.deref.ensures.value number c.in-Some.ensures.lookup.3.0 c.in-Some.ensures.lookup.1 in
-    let rows = log_at _ w es at c.in-Some.replica.now c.log-log.result.now.rows is c.log-log.ensures.live in
+    let rows = log_at _ w es at c.in-Some.replica.now c.log-log.result.now.rows is (c.log-log.ensures.live w.start) in
     (omega arith, subst HaveFourBytes rows c.numbers_fit.ensures)
 
 pub returns-in_err-piece-clause-fits : goal.returns-in_err-piece-clause-fits
 returns-in_err-piece-clause-fits g c = λ w es numbers stand number.
     let at = c.args.output.now.at in
     let is = read_at _ w es numbers c.args.self.now.replicas.items c.deref.result.now c.args.place at c.in-Some.replica.now stand c.deref.ensures.value number c.in-Some.ensures.lookup.3.0 c.in-Some.ensures.lookup.1 in
-    let rows = log_at _ w es at c.in-Some.replica.now c.log-log.result.now.rows is c.log-log.ensures.live in
+    let rows = log_at _ w es at c.in-Some.replica.now c.log-log.result.now.rows is (c.log-log.ensures.live w.start) in
     (omega arith, subst HaveFourBytes rows c.numbers_fit.ensures)
 
 pub returns-clause-memory : goal.returns-clause-memory

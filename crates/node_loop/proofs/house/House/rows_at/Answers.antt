@@ -6,7 +6,7 @@ pub returns-in-Some : goal.returns-in-Some
 returns-in-Some g c = record {
   count = λ w es numbers at stand number.
       let is = read_at _ w es numbers c.args.self.now.replicas.items c.deref.result.now c.args.place at c.in-Some.replica.now stand c.deref.ensures.value number c.in-Some.ensures.lookup.3.0 c.in-Some.ensures.lookup.1 in
-      c.len.ensures ∙ ap length (log_at _ w es at c.in-Some.replica.now c.log.result.now.rows is c.log.ensures.live);
+      c.len.ensures ∙ ap length (log_at _ w es at c.in-Some.replica.now c.log.result.now.rows is (c.log.ensures.live w.start));
 }
 
 pub returns-in-None : goal.returns-in-None

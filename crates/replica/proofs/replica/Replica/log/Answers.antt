@@ -14,11 +14,14 @@ pub returns-clause-near : goal.returns-clause-near
 returns-clause-near g c =
     let b = g.E.Broadcast in
     let m : Meaning g.row.S.Denot g.row.E.Denot g.row.C.Denot KeyRow = with_keys g.S.Service.stands g.S.Service.rules g.S.Service.shown b.stands b.rules b.shown g.C.Coin.bits in
-    λ r k st stands. elim stands.state [
+    λ s r k st stands. elim stands.state [
       | inl on ↦
-          subst (λ (log : List Row). IsPart (history_rows r st.history) log × IsPart log (history_rows r (with_lost st))) (sym (rows_are on.log)) (
-            part_itself (history_rows r st.history),
-            lost_rows m g.met.E.Broadcast.value_laws g.met.S.Service.word_laws c.history_laws.ensures.proper c.args.self.now.core r st on.core,
+          subst (λ (log : List Row). IsPart (history_rows s r st.history) log × IsPart log (history_rows s r (with_lost st))) (sym (rows_are on.log)) (
+            part_itself (history_rows s r st.history),
+            lost_rows s m g.met.E.Broadcast.value_laws g.met.S.Service.word_laws c.history_laws.ensures.proper c.args.self.now.core r st on.core,
           )
       | inr off ↦ off.log
     ]
+
+pub returns-clause-start : goal.returns-clause-start
+returns-clause-start g c = λ s r k st stands. elim stands.state [ inl on ↦ on.log.start | inr off ↦ off.start ]

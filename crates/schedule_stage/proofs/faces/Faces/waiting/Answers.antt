@@ -19,6 +19,6 @@ returns-in-Some g c = λ p steps is play faulty below.
     let states = states_of there (told_to w k l.face steps) in
     let at = c.replica.ensures.is there (told_to w k l.face steps) l.stands in
     let one = rw c.in-Some.is at at in
-    let core = c.core.ensures.live (rules_at there i) (there.keys i) (states i) one.stands one.live in
+    let core = c.core.ensures.live there.start (rules_at there i) (there.keys i) (states i) one.stands one.live in
     c.inbox_len.ensures (rules_at there i) (states i) core
     ∙ ap (λ (st : CoreState). length st.inbox) (sym (face_state c.faces_are_replicas.ensures.states w k l.face steps l.letter play.steps_are c.args.a l.here faulty below))

@@ -12,7 +12,7 @@ returns-in-Some g c = rw c.in-Correct.is (λ p what steps stands player.
     let es = events_by w p steps in
     let i = c.in-Correct.i in
     let is = rw c.in-Some.is at (c.replica.ensures.is w es stands.world) in
-    let core = c.core.ensures.live (rules_at w i) (w.keys i) (states_of w es i) is.stands is.live in
+    let core = c.core.ensures.live w.start (rules_at w i) (w.keys i) (states_of w es i) is.stands is.live in
     c.inbox_len.ensures (rules_at w i) (states_of w es i) core)
 
 pub returns-in-Face : goal.returns-in-Face

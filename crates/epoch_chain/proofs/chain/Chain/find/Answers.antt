@@ -1,9 +1,0 @@
-use Rattle.std.proofs.Common.{◌≡◌, ◌↔◌, ap, subst, List, Some}
-use Rattle.command_log.specs.Rows.{Row, HasPlace}
-use Rattle.epoch_chain.specs.Standing.{Kept}
-use Rattle.epoch_chain.proofs.chain.Chain.find.Goals as goal
-
-pub returns-clause-exact : goal.returns-clause-exact
-returns-clause-exact c = λ position.
-    subst (λ (rs : List Row). (c.find.result ≡ Some position) ↔ HasPlace rs position c.args.client c.args.request)
-    (ap (λ (k : Kept). k.rows) c.self.view_is) (c.find.ensures.exact position)
