@@ -1,7 +1,5 @@
-pub mod Lists
-pub mod Images
-pub mod Groups
-pub mod Records
-pub mod Making
+pub mod EventTexts
 pub mod Readings
-mod Owning
+mod Faults
+mod Groups
+mod OpeningImages

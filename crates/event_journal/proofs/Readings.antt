@@ -1,137 +1,145 @@
--- A file has one reading: it opens as one list, or is foreign or broken at one place, and none of these beside another.
-use Rattle.std.proofs.Common.{◌≡◌, ◌≢◌, ◌⊎◌, inl, inr, ℕ, ◌<◌, List, [], ◌∷◌, ◌++◌, length, drop, reverse, get_or, Some, refl, sym, ap, ◌∙◌, append_assoc, arith, length-append}
-use Rattle.std.specs.List.{flat_map, AllByRecursion}
-use Rattle.std.proofs.lemmas.Bool.{cases_lt}
-use Rattle.std.proofs.lemmas.List.{append_cancel_left, reverse-reverse, get_or_append_left, get_or-take}
+-- A journal's file has one reading, since a file of records has one.
+use Rattle.std.proofs.Common.{◌≡◌, inl, inr, ℕ, ◌+◌, ◌<◌, ◌≤◌, List, [], ◌∷◌, ◌++◌, length, take, drop, get_or, Some, refl, sym, ap, subst, ◌∙◌}
+use Rattle.std.specs.List.{AllByRecursion}
+use Rattle.std.proofs.lemmas.List.{drop_more}
 use Rattle.ritas_base.specs.declared.event.Event.{Event}
+use Rattle.ritas_base.specs.Bytes.{IsBytes}
+use Rattle.schedule_file.specs.FileBytes.{limit}
+use Rattle.schedule_file.specs.OwnEvents.{own_event}
+use Rattle.schedule_file.specs.OwnEventsLaws.{own_only}
 use Rattle.schedule_file.specs.Spelling.{event_text, sized}
-use Rattle.event_journal.specs.Journal.{IsRecord, IsUnmade, Opens, OpensAs, closed_front, record_text, records}
-use Rattle.event_journal.specs.Reading.{IsBroken, IsForeign, NoRecord, record_in}
-use Rattle.event_journal.proofs.Groups.{all_reverse}
-use Rattle.event_journal.proofs.Records.{record_only}
+use Rattle.record_file.specs.Records as file
+use Rattle.record_file.specs.Reading.{AtGate, record_at, record_behind, records_read}
+use Rattle.record_file.specs.Reading as reading
+use Rattle.record_file.proofs.Readings as read
+use Rattle.record_file.proofs.Records.{record_only}
+use Rattle.record_file.proofs.Walking.{at_found, has_front, read_broken}
+use Rattle.event_journal.specs.Journal.{IsRecord, Opens, OpensAs, closed_front}
+use Rattle.event_journal.specs.Reading.{IsBroken, IsForeign}
+use Rattle.event_journal.specs.EventRecords.{HasNoEventAt, event_texts, journal_form}
+use Rattle.event_journal.proofs.EventTexts.{opens_as_texts, same_front}
 
--- ---- records, the oldest first
+-- ---- texts of events
 
--- records end at this gate: it is shut, or no record stands behind it
-abbrev Stops : ℕ → ℕ → List ℕ → Type 0
-Stops me gate rest = (gate ≢ 1) ⊎ NoRecord me rest
+-- the text of an event of a replica
+abbrev IsText : ℕ → List ℕ → Type 0
+IsText me r = (e : Event) × IsRecord me e × (r ≡ event_text e)
 
--- what stands behind a record begins with a gate
-record HasGate (bytes : List ℕ) : Type 0 where
-  pub gate : ℕ
-  pub rest : List ℕ
-  pub is : bytes ≡ gate ∷ rest
+text_fits : (me : ℕ) (r : List ℕ) → IsText me r → file.IsRecord journal_form r
+text_fits me r (e, own, is) = subst (λ (x : List ℕ). file.IsRecord journal_form x) (sym is) own.short
 
-behind : (xs : List Event) (gate : ℕ) (rest : List ℕ) → HasGate (flat_map record_text xs ++ gate ∷ rest)
-behind [] gate rest = record { gate = gate; rest = rest; is = refl }
-behind (x ∷ xs) gate rest = record { gate = 1; rest = drop 1 (flat_map record_text (x ∷ xs) ++ gate ∷ rest); is = refl }
+are_texts : (me : ℕ) (es : List Event) → AllByRecursion (IsRecord me) es → AllByRecursion (IsText me) (event_texts es)
+are_texts me [] all = tt
+are_texts me (e ∷ es) all = ((e, all.0, refl), are_texts me es all.1)
 
--- what stands behind the gate of the first record
-first_record : (x : Event) (xs : List Event) (gate : ℕ) (rest : List ℕ) → drop 1 (flat_map record_text (x ∷ xs) ++ gate ∷ rest) ≡ sized (event_text x) ++ (flat_map record_text xs ++ gate ∷ rest)
-first_record x xs gate rest = append_assoc (sized (event_text x)) (flat_map record_text xs) (gate ∷ rest)
+-- events of a replica with the same text are the same
+pub same_event : (me : ℕ) (e f : Event) → IsRecord me e → IsRecord me f → event_text e ≡ event_text f → e ≡ f
+same_event me e f own_e own_f same =
+    let one = own_only me e [] (record { alone = own_e.alone; fits = own_e.fits }) in
+    let two = own_only me f [] (record { alone = own_f.alone; fits = own_f.fits }) in
+    let read : Some (e, length (event_text e)) ≡ Some (f, length (event_text f)) = sym one ∙ ap (λ (x : List ℕ). own_event me (x ++ [])) same ∙ two in
+    let pair : (e, length (event_text e)) ≡ (f, length (event_text f)) = cc read in
+    ap (λ (p : Event × ℕ). p.0) pair
 
-is_in : (me : ℕ) (x : Event) (bytes : List ℕ) → IsRecord me x → HasGate bytes → record_in me (sized (event_text x) ++ bytes) ≡ Some (x, length (event_text x))
-is_in me x bytes is has = ap (λ (b : List ℕ). record_in me (sized (event_text x) ++ b)) has.is ∙ record_only me x has.gate has.rest is
+pub same_events : (me : ℕ) (es fs : List Event) → AllByRecursion (IsRecord me) es → AllByRecursion (IsRecord me) fs → event_texts es ≡ event_texts fs → es ≡ fs
+same_events me [] [] all_es all_fs same = refl
+same_events me [] (f ∷ fs) all_es all_fs same = absurd (cc same)
+same_events me (e ∷ es) [] all_es all_fs same = absurd (cc same)
+same_events me (e ∷ es) (f ∷ fs) all_es all_fs same =
+    let first : event_text e ≡ event_text f = cc same in
+    let rest : event_texts es ≡ event_texts fs = cc same in
+    ap (λ (x : Event). x ∷ es) (same_event me e f all_es.0 all_fs.0 first) ∙ ap (λ (xs : List Event). f ∷ xs) (same_events me es fs all_es.1 all_fs.1 rest)
 
--- where records end, no record begins
-ends : (me : ℕ) (gate : ℕ) (rest : List ℕ) (y : Event) (ys : List Event) (shut : ℕ) (more : List ℕ) → Stops me gate rest → IsRecord me y → gate ∷ rest ≡ flat_map record_text (y ∷ ys) ++ shut ∷ more → ⊥
-ends me gate rest y ys shut more (inl closed) is e = closed (ap (λ (x : List ℕ). get_or x 0 0) e)
-ends me gate rest y ys shut more (inr none) is e =
-    let has = behind ys shut more in
-    none y has.gate has.rest is (ap (drop 1) e ∙ first_record y ys shut more ∙ ap (λ (b : List ℕ). sized (event_text y) ++ b) has.is)
+-- ---- one reading
 
--- the same records, and the same behind them
-record SameRecords (xs ys : List Event) (one two : List ℕ) : Type 0 where
-  pub events : xs ≡ ys
-  pub rest : one ≡ two
+module _ (me : ℕ) (head file_is : List ℕ) where
+  abbrev Reads : List Event → ℕ → List ℕ → Type 0
+  Reads es gate rest = read.Reads journal_form (IsText me) (text_fits me) head file_is (event_texts es) gate rest
 
-same_records : (me : ℕ) (xs ys : List Event) (g h : ℕ) (r s : List ℕ) → AllByRecursion (IsRecord me) xs → AllByRecursion (IsRecord me) ys → Stops me g r → Stops me h s
-    → flat_map record_text xs ++ g ∷ r ≡ flat_map record_text ys ++ h ∷ s → SameRecords xs ys (g ∷ r) (h ∷ s)
-same_records me [] [] g h r s all_xs all_ys end_xs end_ys e = record { events = refl; rest = e }
-same_records me [] (y ∷ ys) g h r s all_xs all_ys end_xs end_ys e = absurd (ends me g r y ys h s end_xs all_ys.0 e)
-same_records me (x ∷ xs) [] g h r s all_xs all_ys end_xs end_ys e = absurd (ends me h s x xs g r end_ys all_xs.0 (sym e))
-same_records me (x ∷ xs) (y ∷ ys) g h r s all_xs all_ys end_xs end_ys e =
-    let one = flat_map record_text xs ++ g ∷ r in
-    let two = flat_map record_text ys ++ h ∷ s in
-    let texts : sized (event_text x) ++ one ≡ sized (event_text y) ++ two = sym (first_record x xs g r) ∙ ap (drop 1) e ∙ first_record y ys h s in
-    let read : Some (x, length (event_text x)) ≡ Some (y, length (event_text y)) = sym (is_in me x one all_xs.0 (behind xs g r)) ∙ ap (record_in me) texts ∙ is_in me y two all_ys.0 (behind ys h s) in
-    let pair : (x, length (event_text x)) ≡ (y, length (event_text y)) = cc read in
-    let same : x ≡ y = ap (λ (p : Event × ℕ). p.0) pair in
-    let rest : one ≡ two = append_cancel_left (sized (event_text x)) _ _ (texts ∙ ap (λ (z : Event). sized (event_text z) ++ two) (sym same)) in
-    let tail = same_records me xs ys g h r s all_xs.1 all_ys.1 end_xs end_ys rest in
-    record { events = ap (λ (z : Event). z ∷ xs) same ∙ ap (λ (zs : List Event). y ∷ zs) tail.events; rest = tail.rest }
+  in_records : (es : List Event) (gate : ℕ) (rest : List ℕ) → file_is ≡ closed_front head es ++ gate ∷ rest → file_is ≡ file.closed_front journal_form head (event_texts es) ++ gate ∷ rest
+  in_records es gate rest text = text ∙ ap (λ (x : List ℕ). x ++ gate ∷ rest) (sym (same_front head es))
 
--- ---- files
+  opened : (es : List Event) (o : Opens me head file_is es) → Reads es o.gate o.rest
+  opened es o = record { text = in_records es o.gate o.rest o.text; each = are_texts me es o.each; stops = inl o.shut }
 
--- a file with this head, records, and an end of these
-record Reads (me : ℕ) (head file : List ℕ) (es : List Event) (gate : ℕ) (rest : List ℕ) : Type 0 where
-  pub text : file ≡ closed_front head es ++ gate ∷ rest
-  pub each : AllByRecursion (IsRecord me) es
-  pub stops : Stops me gate rest
+  broken : (p : ℕ) (b : IsBroken me head file_is p) → Reads b.es 1 b.rest
+  broken p b = record {
+    text = in_records b.es 1 b.rest b.text;
+    each = are_texts me b.es b.each;
+    stops = inr (λ r gate rest text is. b.none text.0 gate rest text.1 (is ∙ ap (λ (x : List ℕ). sized x ++ gate ∷ rest) text.2));
+  }
 
-opened : (me : ℕ) (head file : List ℕ) (es : List Event) (o : Opens me head file es) → Reads me head file es o.gate o.rest
-opened me head file es o = record { text = o.text; each = o.each; stops = inl o.shut }
+  pub one_broken : (p q : ℕ) → IsBroken me head file_is p → IsBroken me head file_is q → p ≡ q
+  one_broken p q a b =
+      let same = read.one_reading journal_form (IsText me) (text_fits me) head file_is (event_texts a.es) (event_texts b.es) 1 1 a.rest b.rest (broken p a) (broken q b) in
+      a.place ∙ ap length (sym (same_front head a.es)) ∙ ap (λ (rs : List (List ℕ)). length (file.closed_front journal_form head rs)) same.records
+      ∙ ap length (same_front head b.es) ∙ sym b.place
 
-broken : (me : ℕ) (head file : List ℕ) (p : ℕ) (b : IsBroken me head file p) → Reads me head file b.es 1 b.rest
-broken me head file p b = record { text = b.text; each = b.each; stops = inr b.none }
+  foreign_record : (p : ℕ) → IsForeign head file_is p → reading.IsForeign journal_form head file_is p
+  foreign_record p f = record { made = f.made; size = f.size; within = f.within; before = f.before; differs = f.differs }
 
-one_reading : (me : ℕ) (head file : List ℕ) (es fs : List Event) (g h : ℕ) (r s : List ℕ) → Reads me head file es g r → Reads me head file fs h s → SameRecords es fs (g ∷ r) (h ∷ s)
-one_reading me head file es fs g h r s one two =
-    let both : (1 ∷ head) ++ (records es ++ g ∷ r) ≡ (1 ∷ head) ++ (records fs ++ h ∷ s) =
-    sym (append_assoc (1 ∷ head) (records es) (g ∷ r)) ∙ sym one.text ∙ two.text ∙ append_assoc (1 ∷ head) (records fs) (h ∷ s) in
-    let same = same_records me (reverse es) (reverse fs) g h r s (all_reverse me es one.each) (all_reverse me fs two.each) one.stops two.stops (append_cancel_left (1 ∷ head) _ _ both) in
-    record { events = sym (reverse-reverse es) ∙ ap (λ (x : List Event). reverse x) same.events ∙ reverse-reverse fs; rest = same.rest }
+  pub foreign_event : (p : ℕ) → reading.IsForeign journal_form head file_is p → IsForeign head file_is p
+  foreign_event p f = record { made = f.made; size = f.size; within = f.within; before = f.before; differs = f.differs }
 
--- ---- the first 52 bytes
+  pub one_foreign : (p q : ℕ) → IsForeign head file_is p → IsForeign head file_is q → p ≡ q
+  one_foreign p q a b = read.one_foreign journal_form head file_is p q (foreign_record p a) (foreign_record q b)
 
-module _ (me : ℕ) (head file : List ℕ) (long : length head ≡ 51) where
-  at_head : (es : List Event) (g : ℕ) (r : List ℕ) (p : ℕ) → file ≡ closed_front head es ++ g ∷ r → p < 52 → get_or file p 0 ≡ get_or (1 ∷ head) p 0
-  at_head es g r p text lt =
-      ap (λ (x : List ℕ). get_or x p 0) (text ∙ append_assoc (1 ∷ head) (records es) (g ∷ r))
-      ∙ get_or_append_left (1 ∷ head) (records es ++ g ∷ r) 0 p (omega (arith, long, lt))
+  each_as : (es : List Event) → OpensAs me head file_is es → AllByRecursion (IsRecord me) es
+  each_as es (inl unmade) = subst (AllByRecursion (IsRecord me)) (sym unmade.2) tt
+  each_as es (inr opens) = opens.each
 
-  read_made : (es : List Event) (g : ℕ) (r : List ℕ) → file ≡ closed_front head es ++ g ∷ r → IsUnmade file → ⊥
-  read_made es g r text (inl short) =
-      omega (arith, ap length text, length-append (closed_front head es) (g ∷ r), length-append head (records es), long, short)
-  read_made es g r text (inr other) = other (at_head es g r 0 text (omega arith))
+  module _ (long : length head ≡ 51) where
+    pub one_list : (es fs : List Event) → OpensAs me head file_is es → OpensAs me head file_is fs → es ≡ fs
+    one_list es fs one two =
+        same_events me es fs (each_as es one) (each_as fs two)
+        (read.one_list journal_form head file_is long (event_texts es) (event_texts fs) (opens_as_texts me head file_is es one) (opens_as_texts me head file_is fs two))
 
-  read_own : (es : List Event) (g : ℕ) (r : List ℕ) (p : ℕ) → file ≡ closed_front head es ++ g ∷ r → IsForeign head file p → ⊥
-  read_own es g r p text foreign = foreign.differs (at_head es g r p text foreign.within.1)
+    pub not_broken : (es : List Event) (p : ℕ) → OpensAs me head file_is es → IsBroken me head file_is p → ⊥
+    not_broken es p (inl a) b = read.read_made journal_form head file_is long (event_texts b.es) 1 b.rest (in_records b.es 1 b.rest b.text) a.0
+    not_broken es p (inr a) b =
+        let same = read.one_reading journal_form (IsText me) (text_fits me) head file_is (event_texts es) (event_texts b.es) a.gate 1 a.rest b.rest (opened es a) (broken p b) in
+        a.shut (ap (λ (x : List ℕ). get_or x 0 0) same.rest)
 
-  pub one_list : (es fs : List Event) → OpensAs me head file es → OpensAs me head file fs → es ≡ fs
-  one_list es fs (inl a) (inl b) = a.2 ∙ sym b.2
-  one_list es fs (inl a) (inr b) = absurd (read_made fs b.gate b.rest b.text a.0)
-  one_list es fs (inr a) (inl b) = absurd (read_made es a.gate a.rest a.text b.0)
-  one_list es fs (inr a) (inr b) = (one_reading me head file es fs a.gate b.gate a.rest b.rest (opened me head file es a) (opened me head file fs b)).events
+    pub not_foreign : (es : List Event) (p : ℕ) → OpensAs me head file_is es → IsForeign head file_is p → ⊥
+    not_foreign es p opens foreign = read.not_foreign journal_form head file_is long (event_texts es) p (opens_as_texts me head file_is es opens) (foreign_record p foreign)
 
-  pub not_broken : (es : List Event) (p : ℕ) → OpensAs me head file es → IsBroken me head file p → ⊥
-  not_broken es p (inl a) b = read_made b.es 1 b.rest b.text a.0
-  not_broken es p (inr a) b =
-      let same = one_reading me head file es b.es a.gate 1 a.rest b.rest (opened me head file es a) (broken me head file p b) in
-      a.shut (ap (λ (x : List ℕ). get_or x 0 0) same.rest)
+    pub not_both : (p q : ℕ) → IsBroken me head file_is p → IsForeign head file_is q → ⊥
+    not_both p q b foreign = read.read_own journal_form head file_is long (event_texts b.es) 1 b.rest q (in_records b.es 1 b.rest b.text) (foreign_record q foreign)
 
-  pub not_foreign : (es : List Event) (p : ℕ) → OpensAs me head file es → IsForeign head file p → ⊥
-  not_foreign es p (inl a) foreign = foreign.made a.0
-  not_foreign es p (inr a) foreign = read_own es a.gate a.rest p a.text foreign
+    -- ---- where a file is broken
 
-  pub not_both : (p q : ℕ) → IsBroken me head file p → IsForeign head file q → ⊥
-  not_both p q b foreign = read_own b.es 1 b.rest q b.text foreign
+    -- a file of records that is broken is a broken journal, if all records before are events
+    pub broken_record : (es : List Event) (p : ℕ) → IsBytes file_is → AllByRecursion (IsRecord me) es → records_read journal_form file_is ≡ event_texts es → reading.IsBroken journal_form head file_is p
+        → IsBroken me head file_is p
+    broken_record es p fits each all b =
+        let same : b.rs ≡ event_texts es = sym (read_broken journal_form head file_is long p fits b) ∙ all in
+        let front : file.closed_front journal_form head b.rs ≡ closed_front head es = ap (file.closed_front journal_form head) same ∙ same_front head es in
+        record {
+          es = es;
+          rest = b.rest;
+          text = b.text ∙ ap (λ (x : List ℕ). x ++ 1 ∷ b.rest) front;
+          each = each;
+          place = b.place ∙ ap length front;
+          none = λ e gate rest own is. b.none (event_text e) gate rest own.short is;
+          size = b.size;
+        }
 
-pub one_broken : (me : ℕ) (head file : List ℕ) (p q : ℕ) → IsBroken me head file p → IsBroken me head file q → p ≡ q
-one_broken me head file p q a b =
-    let same = one_reading me head file a.es b.es 1 1 a.rest b.rest (broken me head file p a) (broken me head file q b) in
-    a.place ∙ ap (λ (es : List Event). length (closed_front head es)) same.events ∙ sym b.place
-
--- below the first place that differs, bytes are the same
-same_below : (head file : List ℕ) (p q : ℕ) → p < q → IsForeign head file p → IsForeign head file q → ⊥
-same_below head file p q lt a b =
-    a.differs (sym (get_or-take q file p 0 lt) ∙ ap (λ (x : List ℕ). get_or x p 0) b.before ∙ get_or-take q (1 ∷ head) p 0 lt)
-
-pub one_foreign : (head file : List ℕ) (p q : ℕ) → IsForeign head file p → IsForeign head file q → p ≡ q
-one_foreign head file p q a b = elim (cases_lt p q) [
-  | inl lt ↦ absurd (same_below head file p q lt a b)
-  | inr le ↦ elim (cases_lt q p) [
-    | inl lt ↦ absurd (same_below head file q p lt b a)
-    | inr ge ↦ omega (arith, le, ge)
-  ]
-]
+    -- a record that is no event is one
+    pub broken_event : (p : ℕ) → IsBytes file_is → length file_is ≤ limit → take 52 file_is ≡ 1 ∷ head → 52 < length file_is → HasNoEventAt me file_is p → IsBroken me head file_is p
+    broken_event p fits short same more b =
+        let front = has_front journal_form head file_is p (event_texts b.es) fits same more b.here in
+        let found = at_found journal_form file_is p b.text b.found in
+        let rest = drop (p + 1) file_is in
+        record {
+          es = b.es;
+          rest = rest;
+          text = front.text ∙ ap (λ (x : List ℕ). x ++ drop p file_is) (same_front head b.es)
+              ∙ ap (λ (x : List ℕ). closed_front head b.es ++ x) (drop_more file_is p 0 front.within ∙ ap (λ (x : ℕ). x ∷ rest) found.is_open);
+          each = b.each;
+          place = front.place ∙ ap length (same_front head b.es);
+          none = λ e gate more own is.
+              let read : Some b.text ≡ Some (event_text e) = sym found.behind ∙ ap (record_behind journal_form) is ∙ record_only journal_form (event_text e) gate more own.short in
+              let text_is : b.text ≡ event_text e = cc read in
+              b.none e own text_is;
+          size = short;
+        }

@@ -1,8 +1,8 @@
--- What a journal stands for, and what comes of appending events to it. Lists of events have the newest first.
-use Rattle.std.specs.Prelude.{◌≡◌, ◌⊎◌, ℕ, ◌+◌, Bool, List, ◌++◌, length, Result, OnOk}
+-- What a journal stands for, and what comes of appending events to it, and of beginning it anew. Lists of events have the newest first.
+use Rattle.std.specs.Prelude.{◌≡◌, ◌⊎◌, ℕ, ◌+◌, Bool, List, [], ◌++◌, length, Result, OnOk}
 use Rattle.outside.specs.Disks.{DiskState, MayLeave, LeavesOnly, disk_state_of}
 use Rattle.ritas_base.specs.declared.event.Event.{Event}
-use Rattle.event_journal.specs.Journal.{Opens, closed_front, records}
+use Rattle.event_journal.specs.Journal.{Opens, OpensAs, closed_front, records}
 use Rattle.event_journal.specs.declared.fault.JournalFault.{JournalFault}
 
 -- what contracts see of a journal: the offset of its closed gate, its replica, and whether it's live
@@ -37,3 +37,15 @@ pub record KeepsJournal (me : ℕ) (head : List ℕ) (es more : List Event) (old
 pub record AppendsEvents (me : ℕ) (head : List ℕ) (es more : List Event) (old new : List DiskState) (journal : JournalState) (result : Result (Unit {0}) JournalFault) : Type 0 where
   pub stands : OnOk result (JournalStandsFor journal head (more ++ es))
   pub kept : KeepsJournal me head es more old new result
+
+-- ---- beginning anew
+
+-- it opens as these events under the old head, or as none under the next one
+abbrev pub OpensRenewed : ℕ → List ℕ → List ℕ → List Event → List ℕ → Type 0
+OpensRenewed me head next es image = Opens me head image es ⊎ OpensAs me next image []
+
+-- A file that opened as these events under one head is begun anew under another: at Ok every image opens as no events under the
+-- new one; at each moment, as these under the old one, or as none under the new one.
+pub record RenewsJournal (me : ℕ) (head next : List ℕ) (es : List Event) (old new : List DiskState) {E : Type 0} (result : Result (Unit {0}) E) : Type 0 where
+  pub images : OnOk result (AllOpen me next [] (disk_state_of new))
+  pub since : LeavesOnly (OpensRenewed me head next es) old new

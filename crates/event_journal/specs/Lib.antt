@@ -1,4 +1,5 @@
 pub mod Journal
+pub mod EventRecords
 pub mod Head
 pub mod Appending
 pub mod Reading

@@ -1,10 +1,11 @@
 -- Worked rows of journals. A head has 51 bytes; these have a shorter one.
-use Rattle.std.specs.Prelude.{◌≡◌, ℕ, List, [], ◌∷◌, Some, None, refl}
+use Rattle.std.specs.Prelude.{◌≡◌, ℕ, List, [], ◌∷◌, refl}
 use Rattle.std.proofs.Common.{inl, inr, lit≤}
 use Rattle.ritas_base.specs.declared.event.Event.{Event}
 use Rattle.ritas_base.specs.declared.event.Event.TheVariants.{Input, Turn}
+use Rattle.record_file.specs.Records as file
+use Rattle.event_journal.specs.EventRecords.{event_texts, journal_form}
 use Rattle.event_journal.specs.Journal.{IsRecord, IsUnmade, Opens, behind_text, closed_front, record_text, records}
-use Rattle.event_journal.specs.Reading.{record_in}
 
 -- an input of replica 0, "h", and then a turn: the newest first
 abbrev two : List Event
@@ -17,6 +18,10 @@ input_record = refl
 -- in the file the oldest is first
 two_records : records two ≡ 1 ∷ 0 ∷ 5 ∷ 2 ∷ 0 ∷ 0 ∷ 1 ∷ 104 ∷ 1 ∷ 0 ∷ 2 ∷ 3 ∷ 0 ∷ []
 two_records = refl
+
+-- they are the records of a file of their texts
+two_texts : file.records journal_form (event_texts two) ≡ records two
+two_texts = refl
 
 -- what is written to append both: their first gate is opened later
 behind_two : behind_text two ≡ 0 ∷ 5 ∷ 2 ∷ 0 ∷ 0 ∷ 1 ∷ 104 ∷ 1 ∷ 0 ∷ 2 ∷ 3 ∷ 0 ∷ 0 ∷ []
@@ -46,23 +51,6 @@ one_opens = record {
 -- before the gate is opened, the same file opens as no events
 none_opens : Opens 0 (82 ∷ []) (1 ∷ 82 ∷ 0 ∷ 0 ∷ 2 ∷ 3 ∷ 0 ∷ 0 ∷ []) []
 none_opens = record { gate = 0; rest = 0 ∷ 2 ∷ 3 ∷ 0 ∷ 0 ∷ []; text = refl; shut = λ is. cc is; each = tt; size = lit≤ tt }
-
--- ---- a record is read
-
-turn_is_read : record_in 0 (0 ∷ 2 ∷ 3 ∷ 0 ∷ 0 ∷ []) ≡ Some (Turn 0, 2)
-turn_is_read = refl
-
--- no gate follows
-turn_at_the_end : record_in 0 (0 ∷ 2 ∷ 3 ∷ 0 ∷ []) ≡ None
-turn_at_the_end = refl
-
--- the length isn't the event's
-turn_too_long : record_in 0 (0 ∷ 3 ∷ 3 ∷ 0 ∷ 0 ∷ 0 ∷ []) ≡ None
-turn_too_long = refl
-
--- another replica's
-turn_of_another : record_in 0 (0 ∷ 2 ∷ 3 ∷ 1 ∷ 0 ∷ []) ≡ None
-turn_of_another = refl
 
 -- ---- files that aren't made
 

@@ -1,9 +1,10 @@
 //! Why a call on a journal fails.
 
 ghost use Rattle.std.specs.Prelude.{◌≡◌};
+ghost use Rattle.event_journal.specs.EventRecords.{journal_fault};
 ghost use Rattle.event_journal.specs.declared.fault.JournalFault.TheVariants as faults;
 
-use outside::Failed;
+use record_file::RecordFault;
 use ritas_base::Mem;
 use std::alloc::{AllocError, AllocFailed};
 
@@ -22,11 +23,20 @@ pub enum JournalFault {
     Mem,
 }
 
-impl From<Failed> for JournalFault {
-    ghost from_gives = { λ _ e. e ≡ faults.Disk };
+impl From<RecordFault> for JournalFault {
+    ghost use Rattle.std.specs.Prelude.{◌≡◌};
+    ghost use Rattle.event_journal.specs.EventRecords.{journal_fault};
 
-    fn from(_: Failed) -> JournalFault {
-        JournalFault::Disk
+    ghost from_gives = { λ fault given. given ≡ journal_fault fault };
+
+    fn from(fault: RecordFault) -> JournalFault {
+        match fault {
+            RecordFault::Foreign(at) => JournalFault::Foreign(at),
+            RecordFault::Broken(at) => JournalFault::Broken(at),
+            RecordFault::Full(size) => JournalFault::Full(size),
+            RecordFault::Disk => JournalFault::Disk,
+            RecordFault::Mem => JournalFault::Mem,
+        }
     }
 }
 

@@ -1,16 +1,19 @@
 //! Appending to a journal: events are written behind a closed gate, and kept once it is open.
 
-ghost use Rattle.std.specs.Prelude.{◌≡◌, ◌<◌, ◌≤◌, ◌+◌, ◌-◌, ◌++◌, ◌∷◌, ◌^◌, ◌↔◌, ◌⊎◌, [], ℕ, List, true, false, length, min, reverse, Err, OnOk, IsOk, IsErr, IsTrue};
+ghost use Rattle.std.specs.Prelude.{◌≡◌, ◌≢◌, ◌<◌, ◌≤◌, ◌+◌, ◌-◌, ◌++◌, ◌∷◌, ◌^◌, ◌↔◌, ◌⊎◌, [], ℕ, List, true, false, length, min, reverse, Err, OnOk, IsOk, IsTrue};
 ghost use Rattle.std.specs.List.{flat_map, AllByRecursion};
-ghost use Rattle.outside.specs.Faults.{CountsFault, HasCause, counted};
+ghost use Rattle.outside.specs.Faults.{CountsFault, HasCause};
 ghost use Rattle.outside.specs.Disks.{disk_state_of};
 ghost use Rattle.ritas_base.specs.declared.event.Event.{Event};
 ghost use Rattle.schedule_file.specs.FileBytes.{limit};
-ghost use Rattle.event_journal.specs.Journal.{IsRecord, behind_text, closed_front, record_text};
-ghost use Rattle.event_journal.specs.Appending.{AllOpen, AppendsEvents, KeepsJournal, JournalStandsFor, length_with};
+ghost use Rattle.event_journal.specs.Journal.{IsRecord, record_text};
+ghost use Rattle.event_journal.specs.Appending.{AllOpen, AppendsEvents, JournalStandsFor, RenewsJournal, length_with};
+ghost use Rattle.event_journal.specs.EventRecords.{journal_form};
 
 use crate::fault::JournalFault;
-use outside::{Buffer, Disk, Failed, put, write_all};
+use crate::reading::journal_form;
+use outside::{Buffer, Disk, Failed, write_all};
+use record_file::{RecordFile, write_front};
 use ritas_base::{Event, Mem};
 use schedule_file::{FILE_LIMIT, Writer, event_size};
 use std::alloc::Global;
@@ -24,22 +27,22 @@ const MOST_KEPT: usize = 1_048_576;
 /// which the records of a group are put together, whose memory stays for the next one.
 #[derive(Drop)]
 pub struct Journal {
-    end: u64,
+    file: RecordFile,
     me: u8,
     live: bool,
     text: Buffer,
 }
 
 impl Model for Journal {
-    ghost use Rattle.std.specs.Prelude.{◌<◌};
-    ghost use Rattle.schedule_file.specs.FileBytes.{limit};
+    ghost use Rattle.std.specs.Prelude.{◌≡◌, true};
     ghost use Rattle.event_journal.specs.Appending.{JournalState};
+    ghost use Rattle.event_journal.specs.EventRecords.{journal_form};
 
     ghost Value = { JournalState };
 
-    ghost view = { λ j. record { end = j.end; me = j.me; live = j.live } };
+    ghost view = { λ j. record { end = j.file.end; me = j.me; live = j.live } };
 
-    ghost invariant = { λ j. j.end < limit };
+    ghost invariant = { λ j. (j.file.form ≡ journal_form) × (j.live ≡ true → j.file.live ≡ true) };
 }
 
 // Adds an event's record, with an open gate.
@@ -47,8 +50,7 @@ fn add_record(text: &mut Buffer, me: u8, ev: &Event) -> Result<(), Failed>
     requires { IsRecord me ev.now }
     ensures { OnOk result (text.new.taken ≡ text.old.taken ++ record_text ev.now) }
 {
-    write_all(text, &[1])?;
-    write_all(text, &(event_size(ev) as u16).to_be_bytes())?;
+    write_front(text, &journal_form(), event_size(ev) as u32)?;
     Writer::event(text, ev)
 }
 
@@ -89,27 +91,15 @@ fn size_with(front: u64, me: u8, events: &[Event]) -> u64
     size
 }
 
-// Writes bytes behind the closed gate and syncs, and then opens the gate and syncs.
-fn keep<D: Disk>(disk: &mut D, gate: u64, text: &[u8]) -> Result<(), Failed>
-    requires { gate < limit }
-    ensures kept { D.tells ≡ true → (me : ℕ) (head : List ℕ) (es more : List Event) → 0 < length more → AllByRecursion (IsRecord me) more
-        → gate ≡ length (closed_front head es) → text.now ≡ behind_text more → gate + 1 + length text.now ≤ limit
-        → AllOpen me head es (disk_state_of (D.told disk.old)) → KeepsJournal me head es more (D.told disk.old) (D.told disk.new) result }
-    ensures cause { HasCause (D.faults disk.old) (D.faults disk.new) (IsErr result) }
-    ensures counts { D.faults disk.new ≡ counted (D.faults disk.old) result }
-{
-    put(disk, gate + 1, text)?;
-    put(disk, gate, &[1])
-}
-
 impl Journal {
-    // A journal whose closed gate stands at this offset. It takes no memory.
-    pub(crate) fn at(alloc: Global, end: u64, me: u8) -> Journal
-        requires { end < limit }
-        ensures { result ≡ record { end = end; me = me; live = true } }
+    // The journal of a replica in this file. It takes no memory.
+    pub(crate) fn at(alloc: Global, file: RecordFile, me: u8) -> Journal
+        requires form { file.form ≡ journal_form }
+        requires live { file.live ≡ true }
+        ensures { result ≡ record { end = file.end; me = me; live = true } }
     {
         Journal {
-            end,
+            file,
             me,
             live: true,
             text: Buffer::new(alloc),
@@ -165,7 +155,7 @@ impl Journal {
         ensures cause { HasCause (D.faults disk.old) (D.faults disk.new) (result ≡ Err JournalFault.Disk) }
         ensures counts { CountsFault (D.faults disk.old) (D.faults disk.new) result (result ≡ Err JournalFault.Disk) }
     {
-        let size = size_with(self.end + 1, self.me, events);
+        let size = size_with(self.file.end() + 1, self.me, events);
         if size > FILE_LIMIT as u64 {
             return Err(JournalFault::Full(size));
         }
@@ -174,9 +164,8 @@ impl Journal {
         }
         self.live = false;
         fill(&mut self.text, self.me, events)?;
-        keep(disk, self.end, &self.text.taken()[1..])?;
+        self.file.append(disk, self.text.taken())?;
         give_back(&mut self.text, alloc);
-        self.end = size - 1;
         self.live = true;
         Ok(())
     }
@@ -200,8 +189,36 @@ impl Journal {
         ensures cause { HasCause (D.faults disk.old) (D.faults disk.new) (result ≡ Err JournalFault.Disk) }
         ensures counts { CountsFault (D.faults disk.old) (D.faults disk.new) result (result ≡ Err JournalFault.Disk) }
     {
-        // Its end is below the limit.
-        let _ = &self.end;
+        // It is below the limit.
+        let _end = self.file.end();
         self.append_all(alloc, disk, slice::from_ref(ev))
+    }
+    /// Begins the journal's file anew, under another head: it has no events then. Whenever a stop comes, the file that it leaves
+    /// opens under the old head as before, or isn't made, or opens as no events under the new one. From Ok on it opens as no
+    /// events under the new one. It takes no memory, and the file becomes no shorter.
+    ///
+    /// `Disk` is the one fault, and comes only where the disk failed: at its first call that fails this one ends, so the disk's
+    /// count of faults rises by one, and at Ok it stands. After `Disk` the journal isn't live.
+    pub fn renew<D: Disk>(&mut self, disk: &mut D, head: &[u8; 51]) -> Result<(), JournalFault>
+        requires live { self.old.live ≡ true }
+        ensures renewed { D.tells ≡ true → (old : List ℕ) (es : List Event)
+            → AllOpen self.old.me old es (disk_state_of (D.told disk.old))
+            → RenewsJournal self.old.me old head.now es (D.told disk.old) (D.told disk.new) result }
+        ensures stands { OnOk result (JournalStandsFor self.new head.now []) }
+        ensures live { OnOk result (self.new.live ≡ true) }
+        ensures over { result ≡ Err JournalFault.Disk → self.new.live ≡ false }
+        ensures others { (p : ℕ) → (result ≢ Err (JournalFault.Foreign p))
+            × (result ≢ Err (JournalFault.Broken p)) × (result ≢ Err (JournalFault.Full p))
+            × (result ≢ Err JournalFault.Mem) }
+        ensures me { self.new.me ≡ self.old.me }
+        ensures cause { HasCause (D.faults disk.old) (D.faults disk.new)
+            (result ≡ Err JournalFault.Disk) }
+        ensures counts { CountsFault (D.faults disk.old) (D.faults disk.new) result
+            (result ≡ Err JournalFault.Disk) }
+    {
+        self.live = false;
+        self.file.renew(disk, head)?;
+        self.live = true;
+        Ok(())
     }
 }

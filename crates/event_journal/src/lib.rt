@@ -22,15 +22,13 @@
 //! | 1 | head | 51 bytes, which name the session and the replica (`journal_head`) |
 //! | 52 | records | a gate, which is 1; a length (2); an event of a schedule file at the replica |
 //!
-//! A gate other than 1, a closed one, follows the last record and ends what is read; what stands behind it counts for nothing. A file
-//! has at most 67,108,864 bytes.
+//! It is a file of `record_file`, whose records are the texts of events. A gate other than 1, a closed one, follows the last record
+//! and ends what is read; what stands behind it counts for nothing. A file has at most 67,108,864 bytes.
 //!
-//! `open_journal` gives the events of a disk's file, and makes a file that isn't made: it clears byte 0 where it is missing or 1,
-//! writes the head and a closed gate behind it, and then writes 1 to byte 0, with a sync behind each. `Journal::append_all` writes
-//! the records of some events behind the closed gate, with all gates but the first open, and a closed gate; syncs; opens the first
-//! gate; and syncs. `append` does so with one event. Whenever a stop comes, the file that it leaves opens as the events before,
-//! with all of the new ones or with none, and from Ok on with them: also a stop that tears what was written since the last sync.
-//! A file has one reading (`journal_laws`).
+//! `open_journal` gives the events of a disk's file, and makes a file that isn't made. `Journal::append_all` appends some events
+//! together, and `append` one. `Journal::renew` begins the file anew, under another head, with no events. Whenever a stop comes, the
+//! file that it leaves opens as the events before, with all of the new ones or with none, and from Ok on with them: also a stop that
+//! tears what was written since the last sync. A file has one reading (`journal_laws`).
 #![tactic(auto)]
 
 mod fault;

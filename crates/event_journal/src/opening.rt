@@ -1,91 +1,50 @@
 //! Opening a journal.
-ghost use Rattle.std.specs.Prelude.{◌≡◌, ◌<◌, ◌≤◌, ◌+◌, ◌++◌, ◌∷◌, ◌⊎◌, [], ℕ, List, true, length, take, reverse, slice_index, Err, IfOk, IsErr, ◌≢◌};
-ghost use Rattle.outside.specs.Faults.{CountsFault, HasCause, counted};
+ghost use Rattle.std.specs.Prelude.{◌≡◌, ◌<◌, ◌≤◌, ◌+◌, ◌↔◌, ℕ, true, length, reverse, slice_index, Err, IfOk, ◌≢◌};
+ghost use Rattle.outside.specs.Faults.{CountsFault, HasCause};
 ghost use Rattle.outside.specs.Disks.{LeavesOnly, at_rest, disk_state_of};
 ghost use Rattle.schedule_file.specs.FileBytes.{limit};
 ghost use Rattle.std.specs.List.{AllByRecursion};
-ghost use Rattle.event_journal.specs.Journal.{IsRecord, IsUnmade, Opens, OpensAs, closed_front};
-ghost use Rattle.event_journal.specs.Reading.{Clears, IsBroken, HasClosedGate, IsForeign, OpensAsKept, OpensJournal, Makes, OpensLike, RestsClear, file_seen};
+ghost use Rattle.record_file.specs.Making.{OpensLike};
+ghost use Rattle.record_file.specs.Reading as reading;
+ghost use Rattle.event_journal.specs.Journal.{IsRecord, OpensAs};
+ghost use Rattle.event_journal.specs.EventRecords.{journal_form};
+ghost use Rattle.event_journal.specs.Reading.{IsBroken, IsForeign, OpensAsKept, OpensJournal, file_seen};
 
 use crate::fault::JournalFault;
 use crate::journal::Journal;
-use crate::reading::{check_head, is_unmade, read_file, read_records};
-use outside::{Disk, Failed, put};
+use crate::reading::{journal_form, read_events};
+use outside::Disk;
+use record_file::{RecordFault, open_read, read_records};
 use ritas_base::Event;
 use std::alloc::Global;
 
-// Clears the first byte where it is missing or 1.
-fn clear<D: Disk>(disk: &mut D, file: &[u8]) -> Result<(), Failed>
-    requires unmade { IsUnmade file.now }
-    requires short { length file.now ≤ limit }
-    ensures cleared { D.tells ≡ true → (me : ℕ) (head : List ℕ) → disk_state_of (D.told disk.old) ≡ at_rest file.now
-        → Clears me head (D.told disk.old) (D.told disk.new) result }
-    ensures cause { HasCause (D.faults disk.old) (D.faults disk.new) (IsErr result) }
-    ensures counts { D.faults disk.new ≡ counted (D.faults disk.old) result }
-{
-    if file.is_empty() || file[0] == 1 {
-        return put(disk, 0, &[0]);
-    }
-    Ok(())
-}
-
-// Writes the head and a closed gate, and then that the file is made.
-fn write_head<D: Disk>(disk: &mut D, text: &[u8; 52]) -> Result<(), Failed>
-    ensures made { D.tells ≡ true → (me : ℕ) (head : List ℕ) → text.now ≡ head ++ 0 ∷ [] → RestsClear (disk_state_of (D.told disk.old))
-        → Makes me head (D.told disk.old) (D.told disk.new) result }
-    ensures cause { HasCause (D.faults disk.old) (D.faults disk.new) (IsErr result) }
-    ensures counts { D.faults disk.new ≡ counted (D.faults disk.old) result }
-{
-    put(disk, 1, text)?;
-    put(disk, 0, &[1])
-}
-
-// A head and a closed gate.
-fn with_gate(head: &[u8; 51]) -> [u8; 52]
-    ensures { result ≡ head.now ++ 0 ∷ [] }
-{
-    let mut text = [0; 52];
-    text[..51].copy_from_slice(head);
-    text
-}
-
-// Makes a file that isn't made.
-fn make<D: Disk>(disk: &mut D, file: &[u8], head: &[u8; 51]) -> Result<(), Failed>
-    requires unmade { IsUnmade file.now }
-    requires short { length file.now ≤ limit }
-    ensures made { D.tells ≡ true → (me : ℕ) → disk_state_of (D.told disk.old) ≡ at_rest file.now
-        → Makes me head.now (D.told disk.old) (D.told disk.new) result }
-    ensures cause { HasCause (D.faults disk.old) (D.faults disk.new) (IsErr result) }
-    ensures counts { D.faults disk.new ≡ counted (D.faults disk.old) result }
-{
-    clear(disk, file)?;
-    write_head(disk, &with_gate(head))
-}
-
-// What a made file says: the events of its records, and the offset of its closed gate.
-fn decode(
+// The first fault of a file in which this one of its records was found: a record before may be no event.
+fn first_fault(
     alloc: Global,
     me: u8,
-    file: &[u8],
     head: &[u8; 51],
-) -> Result<(Vec<Event>, usize), JournalFault>
+    file: &[u8],
+    fault: RecordFault,
+) -> JournalFault
     requires me_below { me < slice_index head.now 13 }
-    requires long { 53 ≤ length file.now }
-    requires made { slice_index file.now 0 ≡ 1 }
     requires short { length file.now ≤ limit }
-    ensures opens { IfOk result (λ x. Opens me head.now file.now (reverse x.0.items) × (x.1 ≡ length (closed_front head.now (reverse x.0.items))) × (x.1 < limit)) }
-    ensures foreign { (p : ℕ) → result ≡ Err (JournalFault.Foreign p) → IsForeign head.now file.now p }
-    ensures broken { (p : ℕ) → result ≡ Err (JournalFault.Broken p) → IsBroken me head.now file.now p }
-    ensures others { (p : ℕ) → (result ≢ Err (JournalFault.Full p)) × (result ≢ Err JournalFault.Disk) }
-    ensures memory { result ≡ Err JournalFault.Mem → (take 52 file.now ≡ 1 ∷ head.now) × (slice_index file.now 52 ≡ 1) }
+    requires foreign { (p : ℕ) → fault ≡ RecordFault.Foreign p
+        → reading.IsForeign journal_form head.now file.now p }
+    requires broken { (p : ℕ) → fault ≡ RecordFault.Broken p
+        → reading.IsBroken journal_form head.now file.now p }
+    requires others { (p : ℕ) → (fault ≢ RecordFault.Full p) × (fault ≢ RecordFault.Mem) }
+    ensures foreign { (p : ℕ) → result ≡ JournalFault.Foreign p → IsForeign head.now file.now p }
+    ensures broken { (p : ℕ) → result ≡ JournalFault.Broken p → IsBroken me head.now file.now p }
+    ensures full { (p : ℕ) → result ≢ JournalFault.Full p }
+    ensures memory { result ≡ JournalFault.Mem → 0 < length file.now }
+    ensures disk { (result ≡ JournalFault.Disk) ↔ (fault ≡ RecordFault.Disk) }
 {
-    match check_head(file, head) {
-        Ok(()) => {}
-        Err(fault) => return Err(fault),
-    }
-    match read_records(alloc, head[13], me, file) {
-        Ok(found) => Ok(found),
-        Err(fault) => Err(fault),
+    let RecordFault::Broken(at) = fault else {
+        return JournalFault::from(fault);
+    };
+    match read_events(alloc, head[13], me, file) {
+        Ok(_events) => JournalFault::Broken(at),
+        Err(first) => first,
     }
 }
 
@@ -103,25 +62,25 @@ fn open_file<D: Disk>(
         → IfOk result (λ x. OpensJournal me head.now (D.told disk.new) x.0 (reverse x.1.items)) }
     ensures gives { IfOk result (λ x. OpensAs me head.now file.now (reverse x.1.items)) }
     ensures live { IfOk result (λ x. (x.0.me ≡ me) × (x.0.live ≡ true)) }
+    ensures own { IfOk result (λ x. AllByRecursion (IsRecord me) (reverse x.1.items)) }
     ensures since { D.tells ≡ true → disk_state_of (D.told disk.old) ≡ at_rest file.now
-        → LeavesOnly (OpensLike me head.now file.now) (D.told disk.old) (D.told disk.new) }
+        → LeavesOnly (OpensLike journal_form head.now file.now)
+        (D.told disk.old) (D.told disk.new) }
     ensures foreign { (p : ℕ) → result ≡ Err (JournalFault.Foreign p) → IsForeign head.now file.now p }
     ensures broken { (p : ℕ) → result ≡ Err (JournalFault.Broken p) → IsBroken me head.now file.now p }
     ensures full { (p : ℕ) → result ≢ Err (JournalFault.Full p) }
-    ensures memory { result ≡ Err JournalFault.Mem
-        → (53 ≤ length file.now) × (take 52 file.now ≡ 1 ∷ head.now) × (slice_index file.now 52 ≡ 1) }
-    ensures cause { HasCause (D.faults disk.old) (D.faults disk.new) (result ≡ Err JournalFault.Disk) }
-    ensures counts { CountsFault (D.faults disk.old) (D.faults disk.new) result (result ≡ Err JournalFault.Disk) }
+    ensures memory { result ≡ Err JournalFault.Mem → 0 < length file.now }
+    ensures cause { HasCause (D.faults disk.old) (D.faults disk.new)
+        (result ≡ Err JournalFault.Disk) }
+    ensures counts { CountsFault (D.faults disk.old) (D.faults disk.new) result
+        (result ≡ Err JournalFault.Disk) }
 {
-    if is_unmade(file) {
-        return match make(disk, file, head) {
-            Ok(()) => Ok((Journal::at(alloc, 52, me), Vec::new(alloc))),
-            Err(Failed) => Err(JournalFault::Disk),
-        };
-    }
-    match decode(alloc, me, file, head) {
-        Ok((events, end)) => Ok((Journal::at(alloc, end as u64, me), events)),
-        Err(fault) => Err(fault),
+    match open_read(disk, &journal_form(), head, file) {
+        Ok(opened) => match read_events(alloc, head[13], me, file) {
+            Ok(events) => Ok((Journal::at(alloc, opened, me), events)),
+            Err(fault) => Err(fault),
+        },
+        Err(fault) => Err(first_fault(alloc, me, head, file, fault)),
     }
 }
 
@@ -169,12 +128,8 @@ pub fn open_journal<D: Disk>(
     ensures counts { CountsFault (D.faults disk.old) (D.faults disk.new) result
         (result ≡ Err JournalFault.Disk) }
 {
-    match disk.sync() {
-        Ok(()) => {}
-        Err(Failed) => return Err(JournalFault::Disk),
-    }
-    match read_file(alloc, disk) {
+    match read_records(alloc, disk, &journal_form()) {
         Ok(file) => open_file(alloc, disk, me, head, &file),
-        Err(fault) => Err(fault),
+        Err(fault) => Err(JournalFault::from(fault)),
     }
 }

@@ -5,14 +5,14 @@ use Rattle.std.proofs.lemmas.List.{reverse-append}
 use Rattle.outside.specs.Disks.{DiskState, disk_state_of}
 use Rattle.outside.specs.DisksLaws.{leaves_none}
 use Rattle.record_file.specs.Form.{Form}
-use Rattle.record_file.specs.Records.{IsRecord, closed_front, group_text, records}
+use Rattle.record_file.specs.Records.{closed_front, group_text, records}
 use Rattle.record_file.specs.Appending.{AllOpen, AppendsRecords, FileState, OpensWithout, StandsFor}
 use Rattle.record_file.proofs.Images.{all_more, front_more, records_tail}
 
-pub all_reverse : (form : Form) (xs : List (List ℕ)) → AllByRecursion (IsRecord form) xs → AllByRecursion (IsRecord form) (reverse xs)
-all_reverse form [] all = tt
-all_reverse form (x ∷ xs) all =
-    subst (AllByRecursion (IsRecord form)) (sym (reverse-append (x ∷ []) xs)) (all_more form (reverse xs) (x ∷ []) (all_reverse form xs all.1) (all.0, tt))
+pub all_reverse : (P : List ℕ → Type 0) (xs : List (List ℕ)) → AllByRecursion P xs → AllByRecursion P (reverse xs)
+all_reverse P [] all = tt
+all_reverse P (x ∷ xs) all =
+    subst (AllByRecursion P) (sym (reverse-append (x ∷ []) xs)) (all_more P (reverse xs) (x ∷ []) (all_reverse P xs all.1) (all.0, tt))
 
 group_length : (form : Form) (more : List (List ℕ)) (text : List ℕ) → text ≡ group_text form more → length text ≡ length (records form more) + 1
 group_length form more text is = omega (arith, ap length is, length-append (records form more) (0 ∷ []))

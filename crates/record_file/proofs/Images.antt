@@ -26,9 +26,9 @@ records_tail form more some = begins (reverse more) (omega (arith, some, length-
     begins [] lt = absurd (omega (arith, lt))
     begins (x ∷ xs) lt = refl
 
-pub all_more : (form : Form) (more rs : List (List ℕ)) → AllByRecursion (IsRecord form) more → AllByRecursion (IsRecord form) rs → AllByRecursion (IsRecord form) (more ++ rs)
-all_more form [] rs first second = second
-all_more form (e ∷ more) rs first second = (first.0, all_more form more rs first.1 second)
+pub all_more : (P : List ℕ → Type 0) (more rs : List (List ℕ)) → AllByRecursion P more → AllByRecursion P rs → AllByRecursion P (more ++ rs)
+all_more P [] rs first second = second
+all_more P (e ∷ more) rs first second = (first.0, all_more P more rs first.1 second)
 
 -- `tail` is the records of the new ones but for their first gate
 module _ (form : Form) (head : List ℕ) (rs more : List (List ℕ)) (tail : List ℕ) (tail_is : records form more ≡ 1 ∷ tail) (all : AllByRecursion (IsRecord form) more) (at : ℕ) (place : at ≡ length (closed_front form head rs))
@@ -88,7 +88,7 @@ module _ (form : Form) (head : List ℕ) (rs more : List (List ℕ)) (tail : Lis
       ∙ sym (append_assoc (closed_front form head rs) (records form more) (0 ∷ rest)) ∙ ap (λ (x : List ℕ). x ++ 0 ∷ rest) (sym (front_more form head rs more))
 
   with_it : (image rest : List ℕ) → image ≡ closed_front form head rs ++ 1 ∷ (tail ++ 0 ∷ rest) → AllByRecursion (IsRecord form) rs → length image ≤ form.limit → Opens form head image (more ++ rs)
-  with_it image rest text each size = record { gate = 0; rest = rest; text = text ∙ opened rest; shut = λ is. cc; each = all_more form more rs all each; size = size }
+  with_it image rest text each size = record { gate = 0; rest = rest; text = text ∙ opened rest; shut = λ is. cc; each = all_more (IsRecord form) more rs all each; size = size }
 
   -- a write of the gate is torn: it's open or closed
   pub second_torn : (file image : List ℕ) → Staged file → IsTorn (record { at = at; count = 1 }) file image → OpensWithout form head rs more image

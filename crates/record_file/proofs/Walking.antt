@@ -1,5 +1,5 @@
 -- Reading a file record by record, from its first gate on.
-use Rattle.std.proofs.Common.{◌≡◌, ◌≢◌, inl, inr, ℕ, zero, suc, ◌+◌, ◌-◌, ◌<◌, ◌≤◌, List, [], ◌∷◌, ◌++◌, length, take, drop, reverse, get_or, Option, Some, None, Bool, true, false, refl, sym, ap, ◌∙◌, append_assoc, arith, length-append, length-drop, length-take, eq-eqb}
+use Rattle.std.proofs.Common.{◌≡◌, ◌≢◌, inl, inr, ℕ, zero, suc, ◌+◌, ◌-◌, ◌<◌, ◌≤◌, List, [], ◌∷◌, ◌++◌, length, take, drop, reverse, get_or, Option, Some, None, Bool, true, false, refl, sym, subst, ap, ◌∙◌, append_assoc, arith, length-append, length-drop, length-take, eq-eqb}
 use Rattle.std.specs.Prelude.{◌==◌, ◌&&◌, if◌then◌else◌}
 use Rattle.std.specs.List.{AllByRecursion}
 use Rattle.std.proofs.lemmas.Bool.{cases_eq, ne_eqb}
@@ -8,7 +8,7 @@ use Rattle.std.proofs.Math.Seq.{get_or-append_right}
 use Rattle.ritas_base.specs.Bytes.{IsBytes}
 use Rattle.record_file.specs.Form.{Form, first_gate, length_text, width_of}
 use Rattle.record_file.specs.Records.{IsRecord, IsUnmade, Opens, OpensAs, closed_front, record_text, sized}
-use Rattle.record_file.specs.Reading.{AtGate, HasFront, IsBroken, gate_behind, record_at, record_behind, records_from, records_read, with_rest}
+use Rattle.record_file.specs.Reading.{AtGate, HasFront, IsBroken, NoRecord, gate_behind, record_at, record_behind, records_from, records_read, with_rest}
 use Rattle.record_file.proofs.Images.{front_more}
 use Rattle.record_file.proofs.Records.{record_found, record_only, record_none, gate_left}
 use Rattle.record_file.proofs.Widths.{length-length_text}
@@ -103,6 +103,9 @@ pub front_length : (form : Form) (head : List ℕ) (rs : List (List ℕ)) (r : L
 front_length form head rs r =
     ap length (front_with form head rs r) ∙ omega (arith, length-append (closed_front form head rs) (record_text form r), record_length form r)
 
+dropped : (bytes : List ℕ) (k : ℕ) → IsBytes bytes → IsBytes (drop k bytes)
+dropped bytes k small i = rw get_or-drop (small (k + i))
+
 pub has_front : (form : Form) (head file : List ℕ) (at : ℕ) (rs : List (List ℕ)) → IsBytes file → take (first_gate form) file ≡ 1 ∷ head → first_gate form < length file → AtGate form file at rs
     → HasFront form head file at rs
 has_front form head file at [] fits same long here =
@@ -129,9 +132,6 @@ has_front form head file at (r ∷ rs) fits same long (before, back, is, place) 
       each = (begins.fits, first.each);
       within = rw place (next_within form file before r is);
     }
-  where
-    dropped : (bytes : List ℕ) (k : ℕ) → IsBytes bytes → IsBytes (drop k bytes)
-    dropped bytes k small i = rw get_or-drop (small (k + i))
 
 -- ---- what opens, and what is broken
 
@@ -159,7 +159,18 @@ broken_there form head file at rs front short made is_open none = record {
   size = short;
 }
 
--- ---- what a file that opens is read as
+-- where no record and gate stand, none is read
+none_behind : (form : Form) (bytes : List ℕ) → IsBytes bytes → NoRecord form bytes → record_behind form bytes ≡ None
+none_behind form bytes fits none = read (record_behind form bytes) refl
+  where
+    read : (o : Option (List ℕ)) → record_behind form bytes ≡ o → record_behind form bytes ≡ None
+    read None is = is
+    read (Some r) is =
+        let begins = record_found form bytes r fits is in
+        let size = width_of form.width + length r in
+        absurd (none r (get_or bytes size 0) (drop (size + 1) bytes) begins.fits (begins.text ∙ ap (λ (x : List ℕ). sized form r ++ x) (drop_more bytes size 0 begins.gate)))
+
+-- ---- what a file is read as
 
 -- of a file that isn't made nothing is read
 pub none_unmade : (form : Form) (file : List ℕ) → IsUnmade form file → records_read form file ≡ []
@@ -204,3 +215,13 @@ module _ (form : Form) (head file : List ℕ) (long : length head ≡ form.head_
   pub read_as : (rs : List (List ℕ)) → OpensAs form head file rs → records_read form file ≡ rs
   read_as rs (inl unmade) = none_unmade form file unmade.0 ∙ sym unmade.2
   read_as rs (inr opens) = read_opens rs opens
+
+  pub read_broken : (p : ℕ) → IsBytes file → (b : IsBroken form head file p) → records_read form file ≡ b.rs
+  read_broken p fits b =
+      let front = closed_front form head b.rs in
+      let at = length front in
+      let behind = behind_there front 1 b.rest b.text in
+      let made : get_or file 0 0 ≡ 1 = ap (λ (x : List ℕ). get_or x 0 0) b.text in
+      let rest_fits : IsBytes b.rest = subst IsBytes behind (dropped file (at + 1) fits) in
+      all_read form file at b.rs (at_gate b.rs 1 b.rest b.text b.each)
+      (at_open form file at made (gate_there front 1 b.rest b.text) ∙ ap (record_behind form) behind ∙ none_behind form b.rest rest_fits b.none)

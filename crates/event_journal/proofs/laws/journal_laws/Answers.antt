@@ -17,4 +17,4 @@ pub returns-clause-broken : goal.returns-clause-broken
 returns-clause-broken c = one_broken
 
 pub returns-clause-foreign : goal.returns-clause-foreign
-returns-clause-foreign c = one_foreign
+returns-clause-foreign c = λ head file. one_foreign 0 head file
