@@ -1,0 +1,7 @@
+mod Lists
+mod Texts
+mod Written
+mod Lengths
+mod Fronts
+mod Unique
+mod Epoch
