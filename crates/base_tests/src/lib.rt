@@ -10,6 +10,7 @@
 //! | `tags`, `frames`, `channels`, `notes`, with the keys of `dealt` | `keyed_channel` |
 //! | `sizes` | `ritas_base` and `keyed_channel`, where memory is ample |
 //! | `schedules` | `schedule_file` |
+//! | `records` | `record_file` |
 //! | `journals` | `event_journal` |
 //! | `replies` | `client_port` |
 //! | `configs` | `cluster_config` |
@@ -19,7 +20,8 @@
 //! | `watching` | `log_watch` |
 //! | `holding` | `ooc_buffers` |
 //! | `commands` | `command_log` |
-//! | `observing` | `observer`, and the pieces and queries of `client_port` |
+//! | `epoch_texts` | `chain_file`, and the records of `record_file` |
+//! | `observing`, `giving` | `observer`, and the pieces and queries of `client_port` |
 #![tactic(auto)]
 
 #[cfg(test)]
@@ -35,7 +37,11 @@ mod dealt;
 #[cfg(test)]
 mod disks;
 #[cfg(test)]
+mod epoch_texts;
+#[cfg(test)]
 mod frames;
+#[cfg(test)]
+mod giving;
 #[cfg(test)]
 mod holding;
 #[cfg(test)]
@@ -46,6 +52,8 @@ mod key_texts;
 mod notes;
 #[cfg(test)]
 mod observing;
+#[cfg(test)]
+mod records;
 #[cfg(test)]
 mod replies;
 #[cfg(test)]
