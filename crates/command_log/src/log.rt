@@ -122,6 +122,13 @@ impl Log {
         self.base_len
     }
 
+    /// Whether the log is that of an epoch of a chain, which a closing row ends.
+    pub fn is_chained(&self) -> bool
+        ensures { result ≡ self.now.start.chained }
+    {
+        self.chained
+    }
+
     /// Whether the log is that of an epoch of a chain, and one of its rows above the base closes the epoch. Then it enters nothing
     /// more. It takes the same time however many rows there are.
     pub fn is_over(&self) -> bool

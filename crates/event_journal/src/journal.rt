@@ -197,8 +197,8 @@ impl Journal {
     /// opens under the old head as before, or isn't made, or opens as no events under the new one. From Ok on it opens as no
     /// events under the new one. It takes no memory, and the file becomes no shorter.
     ///
-    /// `Disk` is the one fault, and comes only where the disk failed: at its first call that fails this one ends, so the disk's
-    /// count of faults rises by one, and at Ok it stands. After `Disk` the journal isn't live.
+    /// `Disk` is the one fault, and comes only if the disk failed. This call ends at the disk's first call that fails, so the
+    /// disk's count of faults rises by one; at Ok it stands. After `Disk` the journal isn't live.
     pub fn renew<D: Disk>(&mut self, disk: &mut D, head: &[u8; 51]) -> Result<(), JournalFault>
         requires live { self.old.live ≡ true }
         ensures renewed { D.tells ≡ true → (old : List ℕ) (es : List Event)

@@ -27,8 +27,8 @@
 //!
 //! `open_journal` gives the events of a disk's file, and makes a file that isn't made. `Journal::append_all` appends some events
 //! together, and `append` one. `Journal::renew` begins the file anew, under another head, with no events. Whenever a stop comes, the
-//! file that it leaves opens as the events before, with all of the new ones or with none, and from Ok on with them: also a stop that
-//! tears what was written since the last sync. A file has one reading (`journal_laws`).
+//! file that it leaves opens as the events before, with all of the new ones or with none. From Ok on it opens with them. This holds
+//! too for a stop that tears what was written since the last sync. A file has one reading (`journal_laws`).
 #![tactic(auto)]
 
 mod fault;

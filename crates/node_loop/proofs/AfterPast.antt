@@ -18,6 +18,7 @@ use Rattle.schedule_file.specs.Spelling.{IsSized}
 use Rattle.event_journal.specs.Appending.{AllOpen, JournalState, JournalStandsFor}
 use Rattle.event_journal.specs.Journal.{IsRecord}
 use Rattle.world_model.specs.World.{Setting}
+use Rattle.node_loop.specs.declared.limits.Limits.{Limits}
 use Rattle.node_loop.specs.declared.end.Fault.{Fault}
 use Rattle.node_loop.specs.declared.end.Fault.TheVariants as faults
 use Rattle.node_loop.specs.declared.end.ServeEnd.{ServeEnd}
@@ -135,6 +136,7 @@ module _ (tells : Tells) (base : Outs) (taken : List ℕ) (count : ℕ) (past : 
 
     ends_with : (now : Outs) (end : ServeEnd) (before earlier : List Event) (s : Serving) (sooner news : List LinkAct) (rule : Want) → Earlier now before earlier s.events
         → EndsKept m w past numbers here tells mid now end before s sooner news rule → EndsKept m w [] numbers here tells base now end earlier (with_past past s) sooner news rule
+    ends_with now ends.Over before earlier s sooner news rule with_it so = whole_with now s _ rule _ so
     ends_with now ends.Done before earlier s sooner news rule with_it so = whole_with now s _ rule _ so
     ends_with now ends.Limit before earlier s sooner news rule with_it so = whole_with now s _ rule _ so
     ends_with now ends.End before earlier s sooner news rule with_it so = whole_with now s _ rule _ so
@@ -157,6 +159,7 @@ module _ (tells : Tells) (base : Outs) (taken : List ℕ) (count : ℕ) (past : 
         (kept_of w past (after_groups w past (recovered w past) groups).events) (newest_kept w past (recovered w past) groups) (earlier_kept w past (recovered w past) groups) end
         → KeptAt now (reach tells base now.outs (earlier_with w past groups) (so_far past (after_groups w past (recovered w past) groups)) (sooner w past (recovered w past) groups))
         (kept_of w past (after_groups w past (recovered w past) groups).events) (newest_kept w past (recovered w past) groups) (earlier_kept w past (recovered w past) groups) end
+    kept_with now groups ends.Over held = held
     kept_with now groups ends.Done held = held
     kept_with now groups ends.Limit held = held
     kept_with now groups ends.End held = held
@@ -172,9 +175,9 @@ module _ (tells : Tells) (base : Outs) (taken : List ℕ) (count : ℕ) (past : 
     kept_with now (group ∷ older) ends.Mem (inr none) = inr ((all_with now.outs (after_groups w past (recovered w past) older).events none.0.0, none.0.1), none.1)
 
     -- and then it was served
-    pub serves_with : (now : Moment) (end : ServeEnd) (until limit : ℕ) → ServesKept m w past numbers here tells mid now end until limit (recovered w past)
-        → ServesAgain m w past numbers here tells base now end until limit
-    serves_with now end until limit served = record {
+    pub serves_with : (now : Moment) (end : ServeEnd) (limits : Limits) → ServesKept m w past numbers here tells mid now end limits (recovered w past)
+        → ServesAgain m w past numbers here tells base now end limits
+    serves_with now end limits served = record {
       groups = served.groups;
       are = served.are;
       queries = served.queries;
@@ -185,15 +188,15 @@ module _ (tells : Tells) (base : Outs) (taken : List ℕ) (count : ℕ) (past : 
 -- ---- it begins
 
 module _ {S E C : Type 0} (m : Meaning S E C KeyRow) (w : Setting) (past : List Event) (numbers : List ℕ) (tells : Tells) where
-  pub runs_again : (house : House S E C) (now : Moment) (taken until limit : ℕ) → taken ≡ 0 → HouseStands m w past numbers house (recalled_waiting w past) (recalled_peers w past)
-      → now.stands [] → Running m w past numbers house tells now.outs now taken until limit (recovered w past) []
-  runs_again house now taken until limit none stands stood =
-      subst (λ (n : ℕ). Running m w past numbers house tells now.outs now n until limit (recovered w past) []) (sym none)
-      (runs_first m w past numbers tells now.outs until limit (recovered w past) house now refl stands (agrees_none tells now.outs) stood)
+  pub runs_again : (house : House S E C) (now : Moment) (taken : ℕ) (limits : Limits) → taken ≡ 0 → HouseStands m w past numbers house (recalled_waiting w past) (recalled_peers w past)
+      → now.stands [] → Running m w past numbers house tells now.outs now taken limits (recovered w past) []
+  runs_again house now taken limits none stands stood =
+      subst (λ (n : ℕ). Running m w past numbers house tells now.outs now n limits (recovered w past) []) (sym none)
+      (runs_first m w past numbers tells now.outs limits (recovered w past) house now refl stands (agrees_none tells now.outs) stood)
 
   -- memory ran out before
-  pub again_short : (here : List (Replica S E C)) (now : Moment) (until limit : ℕ) → now.stands [] → ServesAgain m w past numbers here tells now.outs now ends.Mem until limit
-  again_short here now until limit stood = record {
+  pub again_short : (here : List (Replica S E C)) (now : Moment) (limits : Limits) → now.stands [] → ServesAgain m w past numbers here tells now.outs now ends.Mem limits
+  again_short here now limits stood = record {
     groups = [];
     are = tt;
     queries = tt;
@@ -212,10 +215,10 @@ module _ {S E C : Type 0} (m : Meaning S E C KeyRow) (w : Setting) (past : List 
       nothing now t = sym (append-nil now.outs.taken)
 
   -- the tape failed over the past events
-  pub again_unwritten : (here : List (Replica S E C)) (base : Outs) (now : Moment) (until limit : ℕ) → AreHere m w past numbers here → now.stands []
+  pub again_unwritten : (here : List (Replica S E C)) (base : Outs) (now : Moment) (limits : Limits) → AreHere m w past numbers here → now.stands []
       → (tells.tape ≡ true → TookFront base.taken now.outs.taken (events_text past)) → now.outs.tape_faults ≡ count_after base.tape_faults → base.tape_faults ≤ now.outs.tape_faults
-      → now.outs.told ≡ base.told → now.outs.link_faults ≡ base.link_faults → ServesAgain m w past numbers here tells base now ends.TapeFault until limit
-  again_unwritten here base now until limit stand stood front rises later told faults_are = record {
+      → now.outs.told ≡ base.told → now.outs.link_faults ≡ base.link_faults → ServesAgain m w past numbers here tells base now ends.TapeFault limits
+  again_unwritten here base now limits stand stood front rises later told faults_are = record {
     groups = [];
     are = tt;
     queries = tt;

@@ -22,7 +22,8 @@ use Rattle.node_loop.specs.declared.output.Reply.{Reply}
 use Rattle.node_loop.specs.declared.waiting.Asked.{Asked}
 use Rattle.node_loop.specs.declared.waiting.Waiters.{Waiters}
 use Rattle.node_loop.specs.Waiting.{Waiting, with_waiter}
-use Rattle.node_loop.specs.Calls.{Outcome, event_called, waiting_left_by, replies_by, asked_in, submitted, asked_so, asks, asks_but, asks_so, queried, silent, is_waited_for, if_here}
+use Rattle.node_loop.specs.Chains.{is_reserved, is_crowded}
+use Rattle.node_loop.specs.Calls.{Outcome, event_called, waiting_left_by, replies_by, asked_in, submitted, asked_so, asks, asks_but, asks_so, queried, silent, is_waited_for, if_here, turned_away, offered_unless}
 use Rattle.node_loop.specs.Peers.{Peers, keep_all}
 use Rattle.node_loop.specs.Resending.{Brought, nothing_more}
 use Rattle.node_loop.specs.Serving.{frames_made_by, sent_by}
@@ -242,21 +243,36 @@ comes_as m w es numbers now output did other more same comes = let P : Outcome �
 
 -- ---- a request without a row
 
-asked_none : (w : Setting) (es : List Event) (at : ℕ) (conn : Option ℕ) (bytes : List ℕ) (ws : Waiting) (asked : Asked) (b : Bool) → asked ≡ asked_in at bytes
-    → position_of (rows_at w es at) asked.client asked.request ≡ None → is_waited_for (ws asked) ≡ b
-    → asked_so w es at conn bytes ws (position_of (rows_at w es at) (asked_in at bytes).client (asked_in at bytes).request)
-    ≡ (if b then silent [] (with_waiter (asked_in at bytes) conn ws) else submitted w es at conn bytes ws)
-asked_none w es at conn bytes ws asked b same none waits =
-    ap (asked_so w es at conn bytes ws) (ap (λ (a : Asked). position_of (rows_at w es at) a.client a.request) (sym same) ∙ none)
-    ∙ ap (λ t. if t then silent [] (with_waiter (asked_in at bytes) conn ws) else submitted w es at conn bytes ws) (ap (λ a. is_waited_for (ws a)) (sym same) ∙ waits)
+module _ (w : Setting) (es : List Event) (at : ℕ) (conn : Option ℕ) (bytes : List ℕ) (ws : Waiting) (asked : Asked) (same : asked ≡ asked_in at bytes)
+    (none : position_of (rows_at w es at) asked.client asked.request ≡ None) where
+  abbrev asked_here : Outcome
+  asked_here = asked_so w es at conn bytes ws (position_of (rows_at w es at) (asked_in at bytes).client (asked_in at bytes).request)
 
-pub asked_waits : (w : Setting) (es : List Event) (at : ℕ) (conn : Option ℕ) (bytes : List ℕ) (ws : Waiting) (asked : Asked) → asked ≡ asked_in at bytes
-    → position_of (rows_at w es at) asked.client asked.request ≡ None → is_waited_for (ws asked) ≡ true
-    → silent [] (with_waiter asked conn ws) ≡ asked_so w es at conn bytes ws (position_of (rows_at w es at) (asked_in at bytes).client (asked_in at bytes).request)
-asked_waits w es at conn bytes ws asked same none waits =
-    ap (λ a. silent [] (with_waiter a conn ws)) same ∙ sym (asked_none w es at conn bytes ws asked true same none waits)
+  asked_none : (b : Bool) → is_reserved w asked.client ≡ b
+      → asked_here ≡ (if b then turned_away at conn bytes 8 ws else offered_unless w es at conn bytes ws (is_waited_for (ws (asked_in at bytes))))
+  asked_none b reserved =
+      ap (asked_so w es at conn bytes ws) (ap (λ (a : Asked). position_of (rows_at w es at) a.client a.request) (sym same) ∙ none)
+      ∙ ap (λ (t : Bool). if t then turned_away at conn bytes 8 ws else offered_unless w es at conn bytes ws (is_waited_for (ws (asked_in at bytes))))
+      (ap (λ (a : Asked). is_reserved w a.client) (sym same) ∙ reserved)
 
-pub asked_first : (w : Setting) (es : List Event) (at : ℕ) (conn : Option ℕ) (bytes : List ℕ) (ws : Waiting) (asked : Asked) → asked ≡ asked_in at bytes
-    → position_of (rows_at w es at) asked.client asked.request ≡ None → is_waited_for (ws asked) ≡ false
-    → submitted w es at conn bytes ws ≡ asked_so w es at conn bytes ws (position_of (rows_at w es at) (asked_in at bytes).client (asked_in at bytes).request)
-asked_first w es at conn bytes ws asked same none waits = sym (asked_none w es at conn bytes ws asked false same none waits)
+  -- one of the closing client is refused
+  pub asked_reserved : is_reserved w asked.client ≡ true → turned_away at conn bytes 8 ws ≡ asked_here
+  asked_reserved reserved = sym (asked_none true reserved)
+
+  asked_open : (b : Bool) → is_reserved w asked.client ≡ false → is_waited_for (ws asked) ≡ b → asked_here ≡ offered_unless w es at conn bytes ws b
+  asked_open b free waits = asked_none false free ∙ ap (offered_unless w es at conn bytes ws) (ap (λ (a : Asked). is_waited_for (ws a)) (sym same) ∙ waits)
+
+  pub asked_waits : is_reserved w asked.client ≡ false → is_waited_for (ws asked) ≡ true → silent [] (with_waiter asked conn ws) ≡ asked_here
+  asked_waits free waits = ap (λ (a : Asked). silent [] (with_waiter a conn ws)) same ∙ sym (asked_open true free waits)
+
+  asked_new : (b : Bool) → is_reserved w asked.client ≡ false → is_waited_for (ws asked) ≡ false → is_crowded w es at ≡ b
+      → asked_here ≡ (if b then turned_away at conn bytes 7 ws else submitted w es at conn bytes ws)
+  asked_new b free waits crowded =
+      asked_open false free waits ∙ ap (λ (t : Bool). if t then turned_away at conn bytes 7 ws else submitted w es at conn bytes ws) crowded
+
+  -- one that has no place is
+  pub asked_crowded : is_reserved w asked.client ≡ false → is_waited_for (ws asked) ≡ false → is_crowded w es at ≡ true → turned_away at conn bytes 7 ws ≡ asked_here
+  asked_crowded free waits crowded = sym (asked_new true free waits crowded)
+
+  pub asked_first : is_reserved w asked.client ≡ false → is_waited_for (ws asked) ≡ false → is_crowded w es at ≡ false → submitted w es at conn bytes ws ≡ asked_here
+  asked_first free waits roomy = sym (asked_new false free waits roomy)

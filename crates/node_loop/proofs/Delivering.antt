@@ -14,6 +14,7 @@ use Rattle.outside.specs.declared.link.FaultCounts.{FaultCounts}
 use Rattle.outside.specs.declared.link.LinkFault.{LinkFault}
 use Rattle.outside.specs.declared.link.LinkItem.{LinkItem}
 use Rattle.world_model.specs.World.{Setting}
+use Rattle.node_loop.specs.declared.limits.Limits.{Limits}
 use Rattle.node_loop.specs.declared.archive.ArchiveFault.{ArchiveFault}
 use Rattle.node_loop.specs.declared.archive.ArchiveFault.TheVariants as archive
 use Rattle.node_loop.specs.declared.end.Fault.{Fault}
@@ -92,10 +93,10 @@ archive_order tells base now earlier events acts archive.Mem agrees = inl agrees
 
 -- ---- a group
 
-module _ {S E C : Type 0} (m : Meaning S E C KeyRow) (w : Setting) (past : List Event) (numbers : List ℕ) (tells : Tells) (base : Outs) (o : Moment) (taken until limit : ℕ) (start : Serving)
+module _ {S E C : Type 0} (m : Meaning S E C KeyRow) (w : Setting) (past : List Event) (numbers : List ℕ) (tells : Tells) (base : Outs) (o : Moment) (taken : ℕ) (limits : Limits) (start : Serving)
     (left : List LinkItem) (house : House S E C) (group : Group) (many : ℕ) (within : many ≤ most_rounds)
-    (run : Gathered m w past numbers house group tells base o taken until limit start left many)
-    (over : IsGroupOver w past until limit (after_groups w past start run.older) run.newest) where
+    (run : Gathered m w past numbers house group tells base o taken limits start left many)
+    (over : IsGroupOver w past limits (after_groups w past start run.older) run.newest) where
   abbrev groups : List (List Round)
   groups = run.newest ∷ run.older
 
@@ -118,10 +119,10 @@ module _ {S E C : Type 0} (m : Meaning S E C KeyRow) (w : Setting) (past : List 
   far_at now = reach tells base now s₀.events s₁.events old
 
   abbrev EndedAt : Moment → ServeEnd → Type 0
-  EndedAt now end = ServesKept m w past numbers house.replicas.items tells base now end until limit start
+  EndedAt now end = ServesKept m w past numbers house.replicas.items tells base now end limits start
 
-  are : AreGroups w past until limit start groups
-  are = are_groups m w past numbers tells base until limit start house group o taken left many run within
+  are : AreGroups w past limits start groups
+  are = are_groups m w past numbers tells base limits start house group o taken left many run within
 
   fits : QueriesFit w past start groups
   fits = (run.fit, run.queries)
@@ -133,7 +134,7 @@ module _ {S E C : Type 0} (m : Meaning S E C KeyRow) (w : Setting) (past : List 
   pub tape_fails : (now : Moment) (fault : Fault) (end : ServeEnd) → IsOfTape fault → StopsPartway tells base now.outs fault s₀.events (es ++ s₀.events) old new
       → now.stands (kept_of w past s₀.events) → IsEndOf fault end → EndedAt now end
   tape_fails now fault end own stops stands is =
-      at_fault m w past numbers tells base until limit start groups now house.replicas.items fault end are fits is
+      at_fault m w past numbers tells base limits start groups now house.replicas.items fault end are fits is
       (subst (λ (es : List Event). StopsPartway tells base now.outs fault s₀.events es old new) all_events stops) (if_failed fault _ run.under.stands.here)
       (left_tape now (far_at now.outs) (kept_of w past s₁.events) (newest_kept w past start groups) (kept_of w past s₀.events) fault own stands)
 
@@ -149,7 +150,7 @@ module _ {S E C : Type 0} (m : Meaning S E C KeyRow) (w : Setting) (past : List 
   pub archive_fails : (now : Moment) (events : List Event) (x : ArchiveFault) (fault : Fault) (end : ServeEnd) → events ≡ group.kept.items → fault ≡ fault_in x → Agrees tells base now.outs s₁.events old
       → now.fails x (reverse events) (kept_of w past s₀.events) → IsEndOf fault end → EndedAt now end
   archive_fails now events x fault end listed same agrees fails is =
-      at_fault m w past numbers tells base until limit start groups now house.replicas.items (fault_in x) end are fits (subst (λ (f : Fault). IsEndOf f end) same is)
+      at_fault m w past numbers tells base limits start groups now house.replicas.items (fault_in x) end are fits (subst (λ (f : Fault). IsEndOf f end) same is)
       (record {
         taken = λ t. all_written base.taken now.outs.taken (events_text s₁.events) (agrees.taken t);
         told = λ t. rw (agrees.told t) (back_none (old ++ base.told) new);
@@ -178,7 +179,7 @@ module _ {S E C : Type 0} (m : Meaning S E C KeyRow) (w : Setting) (past : List 
 
     -- all went out
     pub group_goes : (outputs : List Output) → outputs ≡ group.outputs.items → LinkGiven tells.link (acts_each (acts_by s₁.peers.keeping) outputs) outs.told told outs.link_faults count (Ok tt)
-        → Running m w past numbers house tells base then taken until limit start left
+        → Running m w past numbers house tells base then taken limits start left
     group_goes outputs same did = record {
       groups = groups;
       are = are;
@@ -196,7 +197,7 @@ module _ {S E C : Type 0} (m : Meaning S E C KeyRow) (w : Setting) (past : List 
     pub group_stops : (outputs : List Output) (x : LinkFault) (fault : Fault) (end : ServeEnd) → outputs ≡ group.outputs.items → IsFaultOfLink x fault
         → LinkGiven tells.link (acts_each (acts_by s₁.peers.keeping) outputs) outs.told told outs.link_faults count (Err x) → IsEndOf fault end → EndedAt then end
     group_stops outputs x fault end same why did is =
-        at_fault m w past numbers tells base until limit start groups then house.replicas.items fault end are fits is
+        at_fault m w past numbers tells base limits start groups then house.replicas.items fault end are fits is
         (link_stops tells base outs s₀.events s₁.events old [] new new told count x fault why (sym (append-nil new)) agrees
         (subst (λ (acts : List LinkAct). LinkGiven tells.link acts outs.told told outs.link_faults count (Err x)) (ap (acts_each (acts_by s₁.peers.keeping)) same ∙ run.under.holds.acts) did))
         (if_failed fault _ run.under.stands.here)

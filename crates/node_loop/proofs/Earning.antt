@@ -18,11 +18,11 @@ use Rattle.world_model.specs.World.{Setting, seen_of}
 use Rattle.node_loop.specs.Resending.{mark_at}
 use Rattle.world_model.specs.MadeOrder.{MadeFrame}
 use Rattle.node_loop.specs.Waiting.{Waiting}
-use Rattle.node_loop.specs.Calls.{Outcome, event_called, item_does, first_does}
+use Rattle.node_loop.specs.Calls.{Outcome, event_called, item_does, first_does, epoch_closed}
 use Rattle.node_loop.specs.Peers.{Peers, keep_all, marked_early}
 use Rattle.node_loop.specs.Deeds.{Deed, Came, Made, Resent, Acked, Wished, Replied, pushed}
 use Rattle.node_loop.specs.Resending.{Brought, nothing_more, is_deferred, opened_so, acked_so, asked_so, connected, noted_so}
-use Rattle.node_loop.specs.Serving.{Serving, so_far, onto, Round, Began, Turned, Reminded, Took, frames_made_by, outcome, brought, round_does, after_from}
+use Rattle.node_loop.specs.Serving.{Serving, so_far, onto, Round, Began, Turned, Closed, Reminded, Took, frames_made_by, outcome, brought, round_does, after_from}
 use Rattle.node_loop.specs.Told.{after_groups, with_deeds, deeds_from}
 use Rattle.node_loop.specs.Laws.{IsEarned, AreEarned, AcksAreEarned}
 use Rattle.node_loop.proofs.Batching.{OnlyResends, acked_resends, asked_resends, connected_resends}
@@ -169,6 +169,7 @@ round_earned : (w : Setting) (past : List Event) (x : Round) (s : Serving) (ds :
     (with_deeds (frames_made_by w (so_far past s) (outcome w past x s).event) (brought w past x s).deeds (outcome w past x s).replies (came x ds))
 round_earned w past (Began item) s ds all = plain_earned w s.events past (first_does w (so_far past s) item s.waiting) ds all
 round_earned w past (Turned i) s ds all = plain_earned w s.events past (event_called w (so_far past s) i (events.Turn i) s.waiting) ds all
+round_earned w past (Closed i epoch) s ds all = plain_earned w s.events past (epoch_closed w (so_far past s) i epoch s.waiting) ds all
 round_earned w past (Reminded i j) s ds all = all
 round_earned w past (Took (items.Frame to bytes)) s ds all =
     frame_earned w s.events past to bytes s.waiting s.peers ds (w.is_correct to) (is_note bytes) all

@@ -19,7 +19,7 @@ use Rattle.node_loop.specs.Peers.{Peers, keep_all, marked_early}
 use Rattle.node_loop.specs.Deeds.{Deed, Made, Resent, Acked, Replied, pushed}
 use Rattle.node_loop.specs.Resending.{Brought, nothing_more, is_deferred, mark_at, opened_so, acked_so, asked_so, connected, noted_so}
 use Rattle.node_loop.proofs.Batching.{OnlyResends, acked_resends, asked_resends, connected_resends}
-use Rattle.node_loop.specs.Serving.{Serving, so_far, Round, Began, Turned, Reminded, Took, frames_made_by, outcome, brought, after_from}
+use Rattle.node_loop.specs.Serving.{Serving, so_far, Round, Began, Turned, Closed, Reminded, Took, frames_made_by, outcome, brought, after_from}
 use Rattle.node_loop.specs.Told.{after_groups, with_deeds, came_for, came_in, newest_deeds, deeds_from}
 use Rattle.node_loop.specs.EarnedRounds.{Earns, IsEarnedIn, EachAck, AcksAreOfRounds}
 use Rattle.node_loop.proofs.Reopening.{did_so, brings_so}
@@ -58,6 +58,7 @@ module _ (P : ℕ → ℕ → ℕ → List Deed → Type 0) where
   came_each (Took item) (y ∷ group) ds all = all
   came_each (Began item) group ds all = all
   came_each (Turned i) group ds all = all
+  came_each (Closed i epoch) group ds all = all
   came_each (Reminded i j) group ds all = all
 
   items_each : (group : List Round) (ds : List Deed) → EachAck P ds → EachAck P (came_in group ++ ds)
@@ -130,6 +131,8 @@ round_each P w past (Began item) s ds earns all =
     replied_each P (outcome w past (Began item) s).replies _ (made_each P (frames_made_by w (so_far past s) (outcome w past (Began item) s).event) ds all)
 round_each P w past (Turned i) s ds earns all =
     replied_each P (outcome w past (Turned i) s).replies _ (made_each P (frames_made_by w (so_far past s) (outcome w past (Turned i) s).event) ds all)
+round_each P w past (Closed i epoch) s ds earns all =
+    replied_each P (outcome w past (Closed i epoch) s).replies _ (made_each P (frames_made_by w (so_far past s) (outcome w past (Closed i epoch) s).event) ds all)
 round_each P w past (Reminded i j) s ds earns all = all
 round_each P w past (Took (items.Frame to bytes)) s ds earns all =
     frame_each P w (so_far past s) to bytes s.waiting s.peers ds (w.is_correct to) (is_note bytes)

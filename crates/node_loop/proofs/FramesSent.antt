@@ -22,7 +22,7 @@ use Rattle.node_loop.specs.Peers.{Peers, keep_all}
 use Rattle.node_loop.specs.Deeds.{Deed, Came, Made, Resent, Acked, Wished, Replied, pushed, act_of, firsts_in}
 use Rattle.node_loop.specs.Resending.{Brought, is_deferred, opened_so, acked_so, asked_so, connected, noted_so, item_brings}
 use Rattle.node_loop.proofs.Batching.{OnlyResends, acked_resends, asked_resends, connected_resends}
-use Rattle.node_loop.specs.Serving.{Serving, so_far, as_sent, frames_made_by, sent_of, onto, Round, Began, Turned, Reminded, Took, at_call, outcome, brought, round_does, after_from}
+use Rattle.node_loop.specs.Serving.{Serving, so_far, as_sent, frames_made_by, sent_of, onto, Round, Began, Turned, Closed, Reminded, Took, at_call, outcome, brought, round_does, after_from}
 use Rattle.node_loop.specs.Told.{given_for, given_in, news_from, after_groups, came_for, came_in, with_deeds, newest_deeds, deeds_from}
 use Rattle.node_loop.specs.Laws.{ActsAreDeeds, DeedsAreBehind, FramesAreMade}
 use Rattle.node_loop.proofs.InOrder.{came, round_deeds, in_order, OfAnyKind, StaysWhere, any_together}
@@ -63,6 +63,7 @@ news_of_round : (w : Setting) (past : List Event) (x : Round) (s : Serving)
     ≡ reverse (map Replies (outcome w past x s).replies) ++ (reverse (map (act_of w.keys) (brought w past x s).deeds) ++ reverse (map as_sent (frames_made_by w (so_far past s) (outcome w past x s).event)))
 news_of_round w past (Began item) s = refl
 news_of_round w past (Turned i) s = refl
+news_of_round w past (Closed i epoch) s = refl
 news_of_round w past (Reminded i j) s = refl
 news_of_round w past (Took item) s = refl
 
@@ -94,7 +95,9 @@ item_acts : (keys : ℕ → KeyRow) (x : Round) (group : List Round) → map (ac
 item_acts keys (Began item) [] = refl
 item_acts keys (Began item) (y ∷ group) = refl
 item_acts keys (Turned i) [] = refl
+item_acts keys (Closed i epoch) [] = refl
 item_acts keys (Turned i) (y ∷ group) = refl
+item_acts keys (Closed i epoch) (y ∷ group) = refl
 item_acts keys (Reminded i j) [] = refl
 item_acts keys (Reminded i j) (y ∷ group) = refl
 item_acts keys (Took item) [] = refl
@@ -230,6 +233,7 @@ frames_more : (w : Setting) (past : List Event) (before : List MadeFrame) (x : R
     ++ reverse (firsts_in (with_deeds (frames_made_by w (so_far past s) (outcome w past x s).event) (brought w past x s).deeds (outcome w past x s).replies (came x ds)))
 frames_more w past before (Began item) s ds so = made_round w s.events past before (outcome w past (Began item) s).event (brought w past (Began item) s).deeds (outcome w past (Began item) s).replies ds tt so
 frames_more w past before (Turned i) s ds so = made_round w s.events past before (outcome w past (Turned i) s).event (brought w past (Turned i) s).deeds (outcome w past (Turned i) s).replies ds tt so
+frames_more w past before (Closed i epoch) s ds so = made_round w s.events past before (outcome w past (Closed i epoch) s).event (brought w past (Closed i epoch) s).deeds (outcome w past (Closed i epoch) s).replies ds tt so
 frames_more w past before (Reminded i j) s ds so = made_round w s.events past before (outcome w past (Reminded i j) s).event (brought w past (Reminded i j) s).deeds (outcome w past (Reminded i j) s).replies ds (tt, tt) so
 frames_more w past before (Took item) s ds so =
     made_round w s.events past before (outcome w past (Took item) s).event (brought w past (Took item) s).deeds (outcome w past (Took item) s).replies (Came false item ∷ ds)

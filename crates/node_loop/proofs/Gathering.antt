@@ -13,6 +13,7 @@ use Rattle.outside.specs.declared.link.FaultCounts.{FaultCounts}
 use Rattle.outside.specs.declared.link.LinkItem.{LinkItem}
 use Rattle.outside.specs.declared.link.LinkItem.TheVariants as items
 use Rattle.world_model.specs.World.{Setting}
+use Rattle.node_loop.specs.declared.limits.Limits.{Limits}
 use Rattle.node_loop.specs.declared.archive.ArchiveFault.{ArchiveFault}
 use Rattle.node_loop.specs.declared.end.Fault.{Fault}
 use Rattle.node_loop.specs.declared.end.Fault.TheVariants as faults
@@ -34,7 +35,7 @@ use Rattle.node_loop.specs.Serving.{Serving, begin, so_far, Want, first_or, want
 use Rattle.node_loop.specs.Standing.{HouseStands}
 use Rattle.node_loop.specs.Told.{given_in, events_from, most_rounds, enough_bytes, MayJoin, IsGroup, IsFull, IsGroupOver, after_groups, AreGroups, before_newest, told_from, newest_calls, sooner}
 use Rattle.node_loop.proofs.Grouping.{events_parts, text_parts, holds_none, joins_on}
-use Rattle.node_loop.proofs.Rounding.{next_told, GaveNone, memory_short, tape_on, told_parts, next_finish, next_overflow, next_halt, next_ask, if_failed, ends_so, left_end, left_none, wants_now}
+use Rattle.node_loop.proofs.Rounding.{next_told, GaveNone, memory_short, tape_on, told_parts, next_end, next_finish, next_overflow, next_halt, next_ask, if_failed, ends_so, left_end, left_none, wants_now}
 use Rattle.node_loop.proofs.Stepping.{with_link, of_link, whole_order}
 
 -- ---- what the link gave for a group
@@ -56,11 +57,11 @@ may_join x group may goes (y ∷ newest) = (may, goes)
 
 -- ---- what is a group
 
-module _ (w : Setting) (past : List Event) (until limit : ℕ) (start : Serving) where
-  one_alone : (x : Round) → IsWanted (wants w past until limit start) x → IsGroup w past until limit start (x ∷ [])
+module _ (w : Setting) (past : List Event) (limits : Limits) (start : Serving) where
+  one_alone : (x : Round) → IsWanted (wants w past limits start) x → IsGroup w past limits start (x ∷ [])
   one_alone x want = record { some = λ no. absurd (cc); wanted = (want, tt); joined = (tt, tt); most = omega arith }
 
-module _ {S E C : Type 0} (m : Meaning S E C KeyRow) (w : Setting) (past : List Event) (numbers : List ℕ) (tells : Tells) (base : Outs) (until limit : ℕ) (start : Serving) where
+module _ {S E C : Type 0} (m : Meaning S E C KeyRow) (w : Setting) (past : List Event) (numbers : List ℕ) (tells : Tells) (base : Outs) (limits : Limits) (start : Serving) where
   abbrev after : List (List Round) → Serving
   after groups = after_groups w past start groups
 
@@ -73,12 +74,12 @@ module _ {S E C : Type 0} (m : Meaning S E C KeyRow) (w : Setting) (past : List 
   far_at now groups = reach tells base now (before groups) (after groups).events (sooner w past start groups)
 
   abbrev EndedAt : List (Replica S E C) → Moment → ServeEnd → Type 0
-  EndedAt here now end = ServesKept m w past numbers here tells base now end until limit start
+  EndedAt here now end = ServesKept m w past numbers here tells base now end limits start
 
   -- ---- at a fault
 
   -- it broke in the newest group
-  pub at_fault : (groups : List (List Round)) (now : Moment) (here : List (Replica S E C)) (fault : Fault) (end : ServeEnd) → AreGroups w past until limit start groups → QueriesFit w past start groups → IsEndOf fault end
+  pub at_fault : (groups : List (List Round)) (now : Moment) (here : List (Replica S E C)) (fault : Fault) (end : ServeEnd) → AreGroups w past limits start groups → QueriesFit w past start groups → IsEndOf fault end
       → StopsPartway tells base now.outs fault (before groups) (after groups).events (sooner w past start groups) (newest_calls w past start groups)
       → IfFailed fault (AreHere m w (so_far past (after groups)) numbers here)
       → ArchiveLeftAt now (far_at now.outs groups) (kept_of w past (after groups).events) (newest_kept w past start groups) (earlier_kept w past start groups) fault → EndedAt here now end
@@ -87,12 +88,12 @@ module _ {S E C : Type 0} (m : Meaning S E C KeyRow) (w : Setting) (past : List 
     are = are;
     queries = fits;
     so = ends_so m w past numbers here tells base now.outs fault end (before groups) (after groups) (sooner w past start groups) (newest_calls w past start groups)
-        (wants w past until limit (after groups)) is stops stand;
+        (wants w past limits (after groups)) is stops stand;
     kept = left_end now (far_at now.outs groups) (kept_of w past (after groups).events) (newest_kept w past start groups) (earlier_kept w past start groups) fault end is left;
   }
 
   -- between two groups
-  pub breaks_between : (groups : List (List Round)) (now : Moment) (here : List (Replica S E C)) (fault : Fault) (end : ServeEnd) → AreGroups w past until limit start groups
+  pub breaks_between : (groups : List (List Round)) (now : Moment) (here : List (Replica S E C)) (fault : Fault) (end : ServeEnd) → AreGroups w past limits start groups
       → QueriesFit w past start groups
       → GaveNone tells base now.outs fault (after groups).events (told_from w past start groups) → now.stands (kept_of w past (after groups).events)
       → IfFailed fault (AreHere m w (so_far past (after groups)) numbers here) → IsEndOf fault end → EndedAt here now end
@@ -115,7 +116,7 @@ module _ {S E C : Type 0} (m : Meaning S E C KeyRow) (w : Setting) (past : List 
 
   -- in a group of which nothing was delivered
   pub breaks_within : (newest : List Round) (older : List (List Round)) (now : Moment) (here : List (Replica S E C)) (fault : Fault) (end : ServeEnd)
-      → AreGroups w past until limit start (newest ∷ older) → QueriesFit w past start (newest ∷ older)
+      → AreGroups w past limits start (newest ∷ older) → QueriesFit w past start (newest ∷ older)
       → GaveNone tells base now.outs fault (after older).events (sooner w past start (newest ∷ older)) → now.stands (kept_of w past (after older).events)
       → IfFailed fault (AreHere m w (so_far past (after (newest ∷ older))) numbers here) → IsEndOf fault end → EndedAt here now end
   breaks_within newest older now here fault end are fits gave stood stand is =
@@ -139,7 +140,7 @@ module _ {S E C : Type 0} (m : Meaning S E C KeyRow) (w : Setting) (past : List 
 
   -- ---- the first round of a group
 
-  module _ (old : House S E C) (o : Moment) (taken : ℕ) (left : List LinkItem) (run : Running m w past numbers old tells base o taken until limit start left) where
+  module _ (old : House S E C) (o : Moment) (taken : ℕ) (left : List LinkItem) (run : Running m w past numbers old tells base o taken limits start left) where
     abbrev now_at : Serving
     now_at = after run.groups
 
@@ -147,11 +148,11 @@ module _ {S E C : Type 0} (m : Meaning S E C KeyRow) (w : Setting) (past : List 
     pub under_none : (group : Group) → IsEmpty group → Under m w past numbers now_at [] old group
     under_none group empty = record { stands = run.stands; holds = holds_none w past now_at group empty }
 
-    pub gathers_first : (new : House S E C) (group : Group) (now : Moment) (more : ℕ) (rest : List LinkItem) (x : Round) → IsWanted (wants w past until limit now_at) x
+    pub gathers_first : (new : House S E C) (group : Group) (now : Moment) (more : ℕ) (rest : List LinkItem) (x : Round) → IsWanted (wants w past limits now_at) x
         → RoundFits w (so_far past now_at) x
         → (round_does w past x now_at).left ≡ rest → more ≡ (round_does w past x now_at).taken
         → Agrees tells base now.outs now_at.events (given_in (x ∷ []) ++ told_from w past start run.groups) → now.stands (kept_of w past now_at.events)
-        → Under m w past numbers now_at (x ∷ []) new group → Gathered m w past numbers new group tells base now more until limit start rest 1
+        → Under m w past numbers now_at (x ∷ []) new group → Gathered m w past numbers new group tells base now more limits start rest 1
     gathers_first new group now more rest x want fits is_left is_taken agrees stood under = record {
       older = run.groups;
       newest = x ∷ [];
@@ -170,21 +171,21 @@ module _ {S E C : Type 0} (m : Meaning S E C KeyRow) (w : Setting) (past : List 
     }
 
     -- memory ran out at it
-    pub first_short : (here : List (Replica S E C)) (now : Moment) (x : Round) → IsWanted (wants w past until limit now_at) x
+    pub first_short : (here : List (Replica S E C)) (now : Moment) (x : Round) → IsWanted (wants w past limits now_at) x
         → RoundFits w (so_far past now_at) x
         → Agrees tells base now.outs now_at.events (given_in (x ∷ []) ++ told_from w past start run.groups) → now.stands (kept_of w past now_at.events) → EndedAt here now ends.Mem
     first_short here now x want fits agrees stood =
-        breaks_within (x ∷ []) run.groups now here faults.Mem ends.Mem (one_alone w past until limit now_at x want, run.over, run.are) ((fits, tt), run.queries)
+        breaks_within (x ∷ []) run.groups now here faults.Mem ends.Mem (one_alone w past limits now_at x want, run.over, run.are) ((fits, tt), run.queries)
         (memory_short tells base now.outs now_at.events (given_in (x ∷ []) ++ told_from w past start run.groups) agrees) stood tt refl
 
     -- one of the first items
-    pub first_wanted : (item : LinkItem) (rest : List LinkItem) → left ≡ item ∷ rest → IsWanted (wants w past until limit now_at) (Began item)
+    pub first_wanted : (item : LinkItem) (rest : List LinkItem) → left ≡ item ∷ rest → IsWanted (wants w past limits now_at) (Began item)
     first_wanted item rest is =
-        subst (λ (l : List LinkItem). IsWanted (first_or l (wants_of w until limit (so_far past now_at) now_at.taken now_at.peers)) (Began item)) (sym (run.rest ∙ is)) refl
+        subst (λ (l : List LinkItem). IsWanted (first_or l (wants_of w limits (so_far past now_at) now_at.taken now_at.waiting now_at.peers)) (Began item)) (sym (run.rest ∙ is)) refl
 
     pub gathers_item : (new : House S E C) (group : Group) (item : LinkItem) (rest : List LinkItem) → left ≡ item ∷ rest
         → Under m w past numbers now_at (Began item ∷ []) new group
-        → (it : Gathered m w past numbers new group tells base o taken until limit start rest 1) × IsGroupOver w past until limit (after it.older) it.newest
+        → (it : Gathered m w past numbers new group tells base o taken limits start rest 1) × IsGroupOver w past limits (after it.older) it.newest
     gathers_item new group item rest is under = (
       record {
         older = run.groups;
@@ -207,7 +208,7 @@ module _ {S E C : Type 0} (m : Meaning S E C KeyRow) (w : Setting) (past : List 
 
   -- ---- the others
 
-  module _ (old : House S E C) (group : Group) (o : Moment) (taken : ℕ) (left : List LinkItem) (many : ℕ) (run : Gathered m w past numbers old group tells base o taken until limit start left many) where
+  module _ (old : House S E C) (group : Group) (o : Moment) (taken : ℕ) (left : List LinkItem) (many : ℕ) (run : Gathered m w past numbers old group tells base o taken limits start left many) where
     abbrev before_it : Serving
     before_it = after run.older
 
@@ -218,13 +219,13 @@ module _ {S E C : Type 0} (m : Meaning S E C KeyRow) (w : Setting) (past : List 
     abbrev calls : List Round → List LinkAct
     calls newest = given_in newest ++ told_from w past start run.older
 
-    pub are_groups : many ≤ most_rounds → AreGroups w past until limit start (run.newest ∷ run.older)
+    pub are_groups : many ≤ most_rounds → AreGroups w past limits start (run.newest ∷ run.older)
     are_groups le = (record { some = run.some; wanted = run.wanted; joined = run.under.holds.joined; most = omega (arith, run.count, le) }, run.over, run.before)
 
     -- the link gave nothing more, and it is over
     pub gathers_still : (now : Moment) → Agrees tells base now.outs before_it.events (calls run.newest) → now.stands (kept_of w past before_it.events)
-        → IsGroupOver w past until limit before_it run.newest
-        → (it : Gathered m w past numbers old group tells base now taken until limit start left many) × IsGroupOver w past until limit (after it.older) it.newest
+        → IsGroupOver w past limits before_it run.newest
+        → (it : Gathered m w past numbers old group tells base now taken limits start left many) × IsGroupOver w past limits (after it.older) it.newest
     gathers_still now agrees stood over = (
       record {
         older = run.older;
@@ -246,11 +247,11 @@ module _ {S E C : Type 0} (m : Meaning S E C KeyRow) (w : Setting) (past : List 
     )
 
     -- by the rules no turn is next
-    pub over_where : (rule : Want) → wants w past until limit under_way ≡ rule → ((i : ℕ) → rule ≡ Turns i → ⊥) → IsGroupOver w past until limit before_it run.newest
+    pub over_where : (rule : Want) → wants w past limits under_way ≡ rule → ((i : ℕ) → rule ≡ Turns i → ⊥) → IsGroupOver w past limits before_it run.newest
     over_where rule same none i is = absurd (none i (sym same ∙ is))
 
     -- what the group has is enough
-    pub over_enough : IsGroupEnough group → IsGroupOver w past until limit before_it run.newest
+    pub over_enough : IsGroupEnough group → IsGroupOver w past limits before_it run.newest
     over_enough enough i is = by_newest run.newest run.under.holds run.some enough
       where
         by_newest : (newest : List Round) → GroupHolds w past before_it newest group → (newest ≡ [] → ⊥) → IsGroupEnough group → IsFull w past before_it newest
@@ -259,7 +260,7 @@ module _ {S E C : Type 0} (m : Meaning S E C KeyRow) (w : Setting) (past : List 
         by_newest (x ∷ newest) holds some (inr full) = inr (inr (inr (subst (λ (l : List ℕ). enough_bytes ≤ length l) holds.text full)))
 
     -- it has as many rounds as a group may have
-    pub over_many : most_rounds ≤ many → IsGroupOver w past until limit before_it run.newest
+    pub over_many : most_rounds ≤ many → IsGroupOver w past limits before_it run.newest
     over_many le i is = by_newest run.newest run.count run.some
       where
         by_newest : (newest : List Round) → length newest ≡ many → (newest ≡ [] → ⊥) → IsFull w past before_it newest
@@ -267,11 +268,11 @@ module _ {S E C : Type 0} (m : Meaning S E C KeyRow) (w : Setting) (past : List 
         by_newest (x ∷ newest) count some = inr (inr (inl (omega (arith, count, le))))
 
     -- a round more
-    pub gathers_more : (new : House S E C) (more_group : Group) (now : Moment) (more : ℕ) (rest : List LinkItem) (x : Round) → IsWanted (wants w past until limit under_way) x
+    pub gathers_more : (new : House S E C) (more_group : Group) (now : Moment) (more : ℕ) (rest : List LinkItem) (x : Round) → IsWanted (wants w past limits under_way) x
         → RoundFits w (so_far past under_way) x
         → (round_does w past x under_way).left ≡ rest → more ≡ (round_does w past x under_way).taken
         → Agrees tells base now.outs before_it.events (calls (x ∷ run.newest)) → now.stands (kept_of w past before_it.events)
-        → Under m w past numbers before_it (x ∷ run.newest) new more_group → Gathered m w past numbers new more_group tells base now more until limit start rest (many + 1)
+        → Under m w past numbers before_it (x ∷ run.newest) new more_group → Gathered m w past numbers new more_group tells base now more limits start rest (many + 1)
     gathers_more new more_group now more rest x want fits is_left is_taken agrees stood under = record {
       older = run.older;
       newest = x ∷ run.newest;
@@ -290,7 +291,7 @@ module _ {S E C : Type 0} (m : Meaning S E C KeyRow) (w : Setting) (past : List 
     }
 
     -- memory ran out at it
-    pub more_short : (here : List (Replica S E C)) (now : Moment) (x : Round) → many < most_rounds → MayJoin x → MayGrow group → IsWanted (wants w past until limit under_way) x
+    pub more_short : (here : List (Replica S E C)) (now : Moment) (x : Round) → many < most_rounds → MayJoin x → MayGrow group → IsWanted (wants w past limits under_way) x
         → RoundFits w (so_far past under_way) x
         → Agrees tells base now.outs before_it.events (calls (x ∷ run.newest)) → now.stands (kept_of w past before_it.events) → EndedAt here now ends.Mem
     more_short here now x lt may goes want fits agrees stood =
@@ -327,33 +328,38 @@ module _ {S E C : Type 0} (m : Meaning S E C KeyRow) (w : Setting) (past : List 
   -- ---- it begins
 
   pub runs_first : (house : House S E C) (o : Moment) → start.taken ≡ 0 → HouseStands m w (so_far past start) numbers house start.waiting start.peers
-      → Agrees tells base o.outs start.events [] → o.stands (kept_of w past start.events) → Running m w past numbers house tells base o 0 until limit start start.left
+      → Agrees tells base o.outs start.events [] → o.stands (kept_of w past start.events) → Running m w past numbers house tells base o 0 limits start start.left
   runs_first house o none stands agrees stood = record { groups = []; are = tt; queries = tt; over = tt; rest = refl; count = sym none; stands = stands; agrees = agrees; kept = stood }
 
   -- ---- the ends
 
   -- all of the groups was delivered
-  serves_whole : (groups : List (List Round)) (here : List (Replica S E C)) (now : Moment) (end : ServeEnd) → AreGroups w past until limit start groups
+  serves_whole : (groups : List (List Round)) (here : List (Replica S E C)) (now : Moment) (end : ServeEnd) → AreGroups w past limits start groups
       → QueriesFit w past start groups
       → EndsKept m w past numbers here tells base now.outs end (before groups) (after groups) (sooner w past start groups) (newest_calls w past start groups)
-      (wants w past until limit (after groups))
+      (wants w past limits (after groups))
       → ((far : Reach) (group older : List Event) → KeptAt now far (kept_of w past (after groups).events) group older end) → EndedAt here now end
   serves_whole groups here now end are fits so kept = record { groups = groups; are = are; queries = fits; so = so; kept = kept _ _ _ }
 
-  module _ (house : House S E C) (o : Moment) (taken : ℕ) (run : Running m w past numbers house tells base o taken until limit start []) where
+  module _ (house : House S E C) (o : Moment) (taken : ℕ) (run : Running m w past numbers house tells base o taken limits start []) where
     abbrev last_at : Serving
     last_at = after run.groups
 
     abbrev last_want : Want
-    last_want = wants_of w until limit (so_far past last_at) taken last_at.peers
+    last_want = wants_of w limits (so_far past last_at) taken last_at.waiting last_at.peers
 
-    last_now : wants w past until limit last_at ≡ last_want
-    last_now = wants_now w past until limit last_at taken run.rest run.count
+    last_now : wants w past limits last_at ≡ last_want
+    last_now = wants_now w past limits last_at taken run.rest run.count
 
     -- with all calls in two parts
     in_parts : (outs : Outs) (more : List LinkAct) → Agrees tells base outs last_at.events (more ++ told_from w past start run.groups)
         → Agrees tells base outs last_at.events (more ++ (newest_calls w past start run.groups ++ sooner w past start run.groups))
     in_parts outs more agrees = subst (λ (l : List LinkAct). Agrees tells base outs last_at.events (more ++ l)) (told_parts w past start run.groups) agrees
+
+    pub is_ended : IsNext last_want next.End → EndedAt house.replicas.items o ends.Over
+    is_ended is =
+        serves_whole run.groups house.replicas.items o ends.Over run.are run.queries
+        (record { why = last_now ∙ next_end last_want is; agrees = in_parts o.outs [] run.agrees; stand = run.stands.here }) (λ far group older. run.kept)
 
     pub finishes : IsNext last_want next.Finish → EndedAt house.replicas.items o ends.Done
     finishes is =
@@ -387,9 +393,9 @@ module _ {S E C : Type 0} (m : Meaning S E C KeyRow) (w : Setting) (past : List 
         breaks_between run.groups now house.replicas.items fault end run.are run.queries gave stood (if_failed fault _ run.stands.here) is
 
 -- it ended for want of memory before the first round
-pub none_served : {S E C : Type 0} (m : Meaning S E C KeyRow) (w : Setting) (past : List Event) (numbers : List ℕ) (here : List (Replica S E C)) (tells : Tells) (base : Outs) (until limit : ℕ) (first : List LinkItem)
-    → Serves m w past numbers here tells base base ends.Mem until limit first
-none_served m w past numbers here tells base until limit first = record {
+pub none_served : {S E C : Type 0} (m : Meaning S E C KeyRow) (w : Setting) (past : List Event) (numbers : List ℕ) (here : List (Replica S E C)) (tells : Tells) (base : Outs) (limits : Limits) (first : List LinkItem)
+    → Serves m w past numbers here tells base base ends.Mem limits first
+none_served m w past numbers here tells base limits first = record {
   groups = [];
   are = tt;
   queries = tt;
@@ -404,10 +410,10 @@ none_served m w past numbers here tells base until limit first = record {
 }
 
 -- where nothing is kept, it ended as serving without an archive does
-pub serves_plain : {S E C : Type 0} (m : Meaning S E C KeyRow) (w : Setting) (past : List Event) (numbers : List ℕ) (here : List (Replica S E C)) (tells : Tells) (base : Outs) (now : Moment) (end : ServeEnd) (until limit : ℕ) (first : List LinkItem)
-    → ((x : ArchiveFault) (group older : List Event) → now.fails x group older → ⊥) → ServesKept m w past numbers here tells base now end until limit (begin first)
-    → Serves m w past numbers here tells base now.outs end until limit first
-serves_plain m w past numbers here tells base now end until limit first never served = record { groups = served.groups; are = served.are; queries = served.queries; so = by_end end served.so served.kept }
+pub serves_plain : {S E C : Type 0} (m : Meaning S E C KeyRow) (w : Setting) (past : List Event) (numbers : List ℕ) (here : List (Replica S E C)) (tells : Tells) (base : Outs) (now : Moment) (end : ServeEnd) (limits : Limits) (first : List LinkItem)
+    → ((x : ArchiveFault) (group older : List Event) → now.fails x group older → ⊥) → ServesKept m w past numbers here tells base now end limits (begin first)
+    → Serves m w past numbers here tells base now.outs end limits first
+serves_plain m w past numbers here tells base now end limits first never served = record { groups = served.groups; are = served.are; queries = served.queries; so = by_end end served.so served.kept }
   where
     s : Serving
     s = after_groups w past (begin first) served.groups
@@ -419,7 +425,7 @@ serves_plain m w past numbers here tells base now end until limit first never se
     new = newest_calls w past (begin first) served.groups
 
     rule : Want
-    rule = wants w past until limit s
+    rule = wants w past limits s
 
     before : List Event
     before = (before_newest w past (begin first) served.groups).events
@@ -428,6 +434,7 @@ serves_plain m w past numbers here tells base now end until limit first never se
         → KeptAt now (reach tells base now.outs before s.events older) (kept_of w past s.events) (newest_kept w past (begin first) served.groups)
         (earlier_kept w past (begin first) served.groups) end
         → EndsSo m w past numbers here tells base now.outs end before s older new rule
+    by_end ends.Over so kept = so
     by_end ends.Done so kept = so
     by_end ends.Limit so kept = so
     by_end ends.End so kept = so

@@ -32,7 +32,7 @@ use Rattle.node_loop.specs.Peers.{Keeping}
 use Rattle.node_loop.specs.PeersStanding.{kept_by}
 use Rattle.node_loop.specs.declared.output.Part.{Part}
 use Rattle.node_loop.specs.Resending.{Brought, part_of}
-use Rattle.node_loop.specs.Serving.{Serving, so_far, sent_by, sent_of, onto, Round, Began, Turned, Reminded, Took, at_call, outcome, brought, after_from}
+use Rattle.node_loop.specs.Serving.{Serving, so_far, sent_by, sent_of, onto, Round, Began, Turned, Closed, Reminded, Took, at_call, outcome, brought, after_from}
 use Rattle.node_loop.specs.Told.{AreJoined, enough_bytes, events_from, news_from}
 use Rattle.node_loop.specs.Standing.{HouseStands, ComesOut, IsMore, IsMoreNow, is_again, frame_by, reply_by}
 
@@ -201,6 +201,7 @@ onto_past (Some e) es past = refl
 at_events : (x : Round) (s : Serving) → (at_call x s).events ≡ s.events
 at_events (Began item) s = refl
 at_events (Turned i) s = refl
+at_events (Closed i epoch) s = refl
 at_events (Reminded i j) s = refl
 at_events (Took item) s = refl
 

@@ -3,7 +3,8 @@ use Rattle.std.proofs.Common.{◌≡◌, ℕ, List, [], ◌∷◌, ◌++◌, Opt
 use Rattle.ritas_base.specs.declared.event.Event.{Event}
 use Rattle.layer_api.specs.Service.{IsPart}
 use Rattle.world_model.specs.World.{Setting}
-use Rattle.node_loop.specs.Serving.{Serving, onto, Round, Began, Turned, Reminded, Took, outcome, round_does, after_from, wants, IsWanted, AreWantedFrom}
+use Rattle.node_loop.specs.declared.limits.Limits.{Limits}
+use Rattle.node_loop.specs.Serving.{Serving, onto, Round, Began, Turned, Closed, Reminded, Took, outcome, round_does, after_from, wants, IsWanted, AreWantedFrom}
 use Rattle.node_loop.specs.Told.{after_groups, all_rounds, given_in, news_from, told_from}
 use Rattle.node_loop.specs.Laws.{RoundsGrow, GroupsGrow, GroupsAreRounds}
 
@@ -19,6 +20,7 @@ part_onto (Some e) xs ys part = part_front (e ∷ []) xs ys part
 grown_round : (w : Setting) (past : List Event) (x : Round) (es : List Event) (s : Serving) → IsPart es s.events → IsPart es (round_does w past x s).events
 grown_round w past (Began item) es s part = part_onto (outcome w past (Began item) s).event es s.events part
 grown_round w past (Turned i) es s part = part_onto (outcome w past (Turned i) s).event es s.events part
+grown_round w past (Closed i epoch) es s part = part_onto (outcome w past (Closed i epoch) s).event es s.events part
 grown_round w past (Reminded i j) es s part = part
 grown_round w past (Took item) es s part = part_onto (outcome w past (Took item) s).event es s.events part
 
@@ -53,22 +55,22 @@ after_more : (w : Setting) (past : List Event) (start : Serving) (more xs : List
 after_more w past start [] xs = refl
 after_more w past start (x ∷ more) xs = ap (λ (s : Serving). round_does w past x s) (after_more w past start more xs)
 
-wanted_more : (w : Setting) (past : List Event) (until limit : ℕ) (start : Serving) (more xs : List Round)
-    → AreWantedFrom w past until limit (after_from w past start xs) more → AreWantedFrom w past until limit start xs
-    → AreWantedFrom w past until limit start (more ++ xs)
-wanted_more w past until limit start [] xs new old = old
-wanted_more w past until limit start (x ∷ more) xs new old = (
-  subst (λ (s : Serving). IsWanted (wants w past until limit s) x) (sym (after_more w past start more xs)) new.0,
-  wanted_more w past until limit start more xs new.1 old,
+wanted_more : (w : Setting) (past : List Event) (limits : Limits) (start : Serving) (more xs : List Round)
+    → AreWantedFrom w past limits (after_from w past start xs) more → AreWantedFrom w past limits start xs
+    → AreWantedFrom w past limits start (more ++ xs)
+wanted_more w past limits start [] xs new old = old
+wanted_more w past limits start (x ∷ more) xs new old = (
+  subst (λ (s : Serving). IsWanted (wants w past limits s) x) (sym (after_more w past start more xs)) new.0,
+  wanted_more w past limits start more xs new.1 old,
 )
 
 pub groups_are_rounds : GroupsAreRounds
-groups_are_rounds w past until limit start [] are = (tt, refl)
-groups_are_rounds w past until limit start (group ∷ older) are =
-    let below = groups_are_rounds w past until limit start older are.2 in
+groups_are_rounds w past limits start [] are = (tt, refl)
+groups_are_rounds w past limits start (group ∷ older) are =
+    let below = groups_are_rounds w past limits start older are.2 in
     let rounds = all_rounds older in
-    let wanted : AreWantedFrom w past until limit (after_from w past start rounds) group =
-    subst (λ (s : Serving). AreWantedFrom w past until limit s group) (sym below.1) are.0.wanted in (
-      wanted_more w past until limit start group rounds wanted below.0,
+    let wanted : AreWantedFrom w past limits (after_from w past start rounds) group =
+    subst (λ (s : Serving). AreWantedFrom w past limits s group) (sym below.1) are.0.wanted in (
+      wanted_more w past limits start group rounds wanted below.0,
       after_more w past start group rounds ∙ ap (λ (s : Serving). after_from w past s group) below.1,
     )

@@ -7,13 +7,14 @@ use Rattle.outside.specs.declared.link.Sent.{Sent}
 use Rattle.world_model.specs.World.{Setting}
 use Rattle.world_model.specs.MadeOrder.{MadeFrame}
 use Rattle.node_loop.specs.Deeds.{Deed, Came, Made, Replied, pushed}
-use Rattle.node_loop.specs.Serving.{Serving, so_far, frames_made_by, Round, Began, Turned, Reminded, Took, outcome, brought, after_from}
+use Rattle.node_loop.specs.Serving.{Serving, so_far, frames_made_by, Round, Began, Turned, Closed, Reminded, Took, outcome, brought, after_from}
 use Rattle.node_loop.specs.Told.{came_in, with_deeds, newest_deeds}
 
 -- the item that the link gave for a round, if it is one
 abbrev pub came : Round → List Deed → List Deed
 came (Began item) ds = ds
 came (Turned i) ds = ds
+came (Closed i epoch) ds = ds
 came (Reminded i j) ds = ds
 came (Took item) ds = Came false item ∷ ds
 
@@ -110,6 +111,7 @@ module _ (Kind : Deed → Type 0) (R : List Deed → List Deed → Type 0) (stay
       → R a (newest_deeds w past start (came_in xs ++ ds) xs) → R (came x a) (newest_deeds w past start (came_in (x ∷ xs) ++ ds) xs)
   newest_sooner w past start a ds (Began item) xs all r = r
   newest_sooner w past start a ds (Turned i) xs all r = r
+  newest_sooner w past start a ds (Closed i epoch) xs all r = r
   newest_sooner w past start a ds (Reminded i j) xs all r = r
   newest_sooner w past start a ds (Took item) [] all r =
       stays.behind (Came false item) a ds r

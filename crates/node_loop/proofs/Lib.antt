@@ -20,6 +20,7 @@ pub mod Busy
 pub mod Seating
 pub mod Rows
 pub mod Comings
+pub mod Chaining
 pub mod Fitting
 pub mod Reopening
 pub mod Earning

@@ -8,7 +8,8 @@ use Rattle.outside.specs.declared.link.LinkItem.{LinkItem}
 use Rattle.layer_api.specs.Service.{IsPart}
 use Rattle.world_model.specs.World.{Setting}
 use Rattle.world_model.specs.Agree.{OneIsPart}
-use Rattle.node_loop.specs.Serving.{Want, Begins, Finishes, Overflows, Turns, Halts, Reminds, Asks, wants, Serving, Round, Began, Turned, Reminded, Took, after_from, IsWanted, AreWantedFrom}
+use Rattle.node_loop.specs.declared.limits.Limits.{Limits}
+use Rattle.node_loop.specs.Serving.{Want, Begins, Ends, Finishes, Overflows, Turns, Closes, Halts, Reminds, Asks, wants, Serving, Round, Began, Turned, Closed, Reminded, Took, after_from, IsWanted, AreWantedFrom}
 use Rattle.node_loop.specs.Laws.{items_of, OneRun}
 
 -- ---- parts
@@ -49,13 +50,14 @@ items_more : (more xs : List Round) → IsPart (items_of xs) (items_of (more ++ 
 items_more [] xs = part_itself (items_of xs)
 items_more (Began item ∷ more) xs = items_more more xs
 items_more (Turned i ∷ more) xs = items_more more xs
+items_more (Closed i epoch ∷ more) xs = items_more more xs
 items_more (Reminded i j ∷ more) xs = items_more more xs
 items_more (Took item ∷ more) xs = let part = items_more more xs in (item ∷ part.0, ap (λ (l : List LinkItem). item ∷ l) part.1)
 
-wanted_before : (w : Setting) (past : List Event) (until limit : ℕ) (start : Serving) (more xs : List Round)
-    → AreWantedFrom w past until limit start (more ++ xs) → AreWantedFrom w past until limit start xs
-wanted_before w past until limit start [] xs wanted = wanted
-wanted_before w past until limit start (x ∷ more) xs wanted = wanted_before w past until limit start more xs wanted.1
+wanted_before : (w : Setting) (past : List Event) (limits : Limits) (start : Serving) (more xs : List Round)
+    → AreWantedFrom w past limits start (more ++ xs) → AreWantedFrom w past limits start xs
+wanted_before w past limits start [] xs wanted = wanted
+wanted_before w past limits start (x ∷ more) xs wanted = wanted_before w past limits start more xs wanted.1
 
 -- ---- one round
 
@@ -66,75 +68,93 @@ same_item a b is one = let e = one_length (a ∷ is) (b ∷ is) one refl in cc
 same_round : (want : Want) (x y : Round) (xs : List Round) → IsWanted want x → IsWanted want y → OneIsPart (items_of (x ∷ xs)) (items_of (y ∷ xs)) → x ≡ y
 same_round (Begins item) (Began a) (Began b) xs left right one = ap (λ (i : LinkItem). Began i) (sym left ∙ right)
 same_round (Begins item) (Began a) (Turned c) xs left right one = absurd right
+same_round (Begins item) (Began a) (Closed c d) xs left right one = absurd right
 same_round (Begins item) (Began a) (Reminded c d) xs left right one = absurd right
 same_round (Begins item) (Began a) (Took c) xs left right one = absurd right
 same_round (Begins item) (Turned c) y xs left right one = absurd left
+same_round (Begins item) (Closed c d) y xs left right one = absurd left
 same_round (Begins item) (Reminded c d) y xs left right one = absurd left
 same_round (Begins item) (Took c) y xs left right one = absurd left
 same_round (Turns k) (Turned i) (Turned j) xs left right one = ap (λ (i : ℕ). Turned i) (sym left ∙ right)
 same_round (Turns k) (Turned i) (Began c) xs left right one = absurd right
+same_round (Turns k) (Turned i) (Closed c d) xs left right one = absurd right
 same_round (Turns k) (Turned i) (Reminded c d) xs left right one = absurd right
 same_round (Turns k) (Turned i) (Took c) xs left right one = absurd right
 same_round (Turns k) (Began c) y xs left right one = absurd left
+same_round (Turns k) (Closed c d) y xs left right one = absurd left
 same_round (Turns k) (Reminded c d) y xs left right one = absurd left
 same_round (Turns k) (Took c) y xs left right one = absurd left
+same_round (Closes k l) (Closed i a) (Closed j b) xs left right one = ap₂ (λ (a b : ℕ). Closed a b) (sym left.0 ∙ right.0) (sym left.1 ∙ right.1)
+same_round (Closes k l) (Closed i a) (Began c) xs left right one = absurd right
+same_round (Closes k l) (Closed i a) (Turned c) xs left right one = absurd right
+same_round (Closes k l) (Closed i a) (Reminded c d) xs left right one = absurd right
+same_round (Closes k l) (Closed i a) (Took c) xs left right one = absurd right
+same_round (Closes k l) (Began c) y xs left right one = absurd left
+same_round (Closes k l) (Turned c) y xs left right one = absurd left
+same_round (Closes k l) (Reminded c d) y xs left right one = absurd left
+same_round (Closes k l) (Took c) y xs left right one = absurd left
 same_round (Reminds k l) (Reminded i j) (Reminded m n) xs left right one = ap₂ (λ (a b : ℕ). Reminded a b) (sym left.0 ∙ right.0) (sym left.1 ∙ right.1)
 same_round (Reminds k l) (Reminded i j) (Began c) xs left right one = absurd right
 same_round (Reminds k l) (Reminded i j) (Turned c) xs left right one = absurd right
+same_round (Reminds k l) (Reminded i j) (Closed c d) xs left right one = absurd right
 same_round (Reminds k l) (Reminded i j) (Took c) xs left right one = absurd right
 same_round (Reminds k l) (Began c) y xs left right one = absurd left
 same_round (Reminds k l) (Turned c) y xs left right one = absurd left
+same_round (Reminds k l) (Closed c d) y xs left right one = absurd left
 same_round (Reminds k l) (Took c) y xs left right one = absurd left
 same_round Asks (Took a) (Took b) xs left right one = ap (λ (i : LinkItem). Took i) (same_item a b (items_of xs) one)
 same_round Asks (Took a) (Began c) xs left right one = absurd right
 same_round Asks (Took a) (Turned c) xs left right one = absurd right
+same_round Asks (Took a) (Closed c d) xs left right one = absurd right
 same_round Asks (Took a) (Reminded c d) xs left right one = absurd right
 same_round Asks (Began c) y xs left right one = absurd left
 same_round Asks (Turned c) y xs left right one = absurd left
+same_round Asks (Closed c d) y xs left right one = absurd left
 same_round Asks (Reminded c d) y xs left right one = absurd left
+same_round Ends x y xs left right one = absurd left
 same_round Finishes x y xs left right one = absurd left
 same_round (Overflows k) x y xs left right one = absurd left
 same_round Halts x y xs left right one = absurd left
 
 -- ---- all rounds
 
-same_rounds : (w : Setting) (past : List Event) (until limit : ℕ) (start : Serving) (xs ys : List Round)
-    → AreWantedFrom w past until limit start xs → AreWantedFrom w past until limit start ys
+same_rounds : (w : Setting) (past : List Event) (limits : Limits) (start : Serving) (xs ys : List Round)
+    → AreWantedFrom w past limits start xs → AreWantedFrom w past limits start ys
     → OneIsPart (items_of xs) (items_of ys) → length xs ≡ length ys → xs ≡ ys
-same_rounds w past until limit start [] [] left right one long = refl
-same_rounds w past until limit start [] (y ∷ ys) left right one long = absurd (cc)
-same_rounds w past until limit start (x ∷ xs) [] left right one long = absurd (cc)
-same_rounds w past until limit start (x ∷ xs) (y ∷ ys) left right one long =
+same_rounds w past limits start [] [] left right one long = refl
+same_rounds w past limits start [] (y ∷ ys) left right one long = absurd (cc)
+same_rounds w past limits start (x ∷ xs) [] left right one long = absurd (cc)
+same_rounds w past limits start (x ∷ xs) (y ∷ ys) left right one long =
     let below = parts_of_two (items_of xs) (items_of ys) (items_of (x ∷ xs)) (items_of (y ∷ ys)) (items_more (x ∷ []) xs) (items_more (y ∷ []) ys) one in
-    let rest : xs ≡ ys = same_rounds w past until limit start xs ys left.1 right.1 below (cc) in
-    let want : IsWanted (wants w past until limit (after_from w past start xs)) y = subst (λ (zs : List Round). IsWanted (wants w past until limit (after_from w past start zs)) y) (sym rest) right.0 in
+    let rest : xs ≡ ys = same_rounds w past limits start xs ys left.1 right.1 below (cc) in
+    let want : IsWanted (wants w past limits (after_from w past start xs)) y = subst (λ (zs : List Round). IsWanted (wants w past limits (after_from w past start zs)) y) (sym rest) right.0 in
     let items : OneIsPart (items_of (x ∷ xs)) (items_of (y ∷ xs)) = subst (λ (zs : List Round). OneIsPart (items_of (x ∷ xs)) (items_of (y ∷ zs))) (sym rest) one in
-    ap₂ (λ (z : Round) (zs : List Round). z ∷ zs) (same_round (wants w past until limit (after_from w past start xs)) x y xs left.0 want items) rest
+    ap₂ (λ (z : Round) (zs : List Round). z ∷ zs) (same_round (wants w past limits (after_from w past start xs)) x y xs left.0 want items) rest
 
 -- the ones are no longer than the others
-first_rounds : (w : Setting) (past : List Event) (until limit : ℕ) (start : Serving) (xs ys : List Round)
-    → AreWantedFrom w past until limit start xs → AreWantedFrom w past until limit start ys
+first_rounds : (w : Setting) (past : List Event) (limits : Limits) (start : Serving) (xs ys : List Round)
+    → AreWantedFrom w past limits start xs → AreWantedFrom w past limits start ys
     → OneIsPart (items_of xs) (items_of ys) → length xs ≤ length ys → IsPart xs ys
-first_rounds w past until limit start xs ys left right one short =
+first_rounds w past limits start xs ys left right one short =
     let k = length ys - length xs in
     let more = take k ys in
     let rest = drop k ys in
     let whole : more ++ rest ≡ ys = take-append-drop k ys in
-    let wanted = wanted_before w past until limit start more rest (subst (λ (zs : List Round). AreWantedFrom w past until limit start zs) (sym whole) right) in
+    let wanted = wanted_before w past limits start more rest (subst (λ (zs : List Round). AreWantedFrom w past limits start zs) (sym whole) right) in
     let part : IsPart (items_of rest) (items_of ys) = subst (λ (zs : List Round). IsPart (items_of rest) (items_of zs)) whole (items_more more rest) in
     let items = parts_of_two (items_of xs) (items_of rest) (items_of xs) (items_of ys) (part_itself (items_of xs)) part one in
     let long : length xs ≡ length rest = omega (arith, short, length-drop k ys) in
-    (more, ap (λ (zs : List Round). more ++ zs) (same_rounds w past until limit start xs rest left wanted items long) ∙ whole)
+    (more, ap (λ (zs : List Round). more ++ zs) (same_rounds w past limits start xs rest left wanted items long) ∙ whole)
 
 turned : {X : Type 0} (xs ys : List X) → OneIsPart xs ys → OneIsPart ys xs
 turned xs ys (inl part) = inr part
 turned xs ys (inr part) = inl part
 
 pub runs_one : OneRun
-runs_one w past until limit start xs ys left right one = by_length (leb (length xs) (length ys)) refl
+runs_one w past limits start xs ys left right one = by_length (leb (length xs) (length ys)) refl
   where
     by_length : (b : Bool) → leb (length xs) (length ys) ≡ b → OneIsPart xs ys
-    by_length true short = inl (first_rounds w past until limit start xs ys left right one (leb-true (length xs) (length ys) short))
+    by_length true short = inl (first_rounds w past limits start xs ys left right one (leb-true (length xs) (length ys) short))
     by_length false long =
         let more = leb-false (length xs) (length ys) long in
-        inr (first_rounds w past until limit start ys xs right left (turned (items_of xs) (items_of ys) one) (omega (arith, more)))
+        inr (first_rounds w past limits start ys xs right left (turned (items_of xs) (items_of ys) one) (omega (arith, more)))

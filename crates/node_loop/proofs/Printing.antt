@@ -18,6 +18,7 @@ use Rattle.event_journal.specs.Journal.{Opens, OpensAs}
 use Rattle.world_model.specs.MadeOrder.{MadeFrame, all_made}
 use Rattle.world_model.specs.Stands.{NoneStops}
 use Rattle.world_model.specs.World.{Setting}
+use Rattle.node_loop.specs.declared.limits.Limits.{Limits}
 use Rattle.node_loop.specs.declared.archive.ArchiveFault.{ArchiveFault}
 use Rattle.node_loop.specs.declared.archive.ArchiveFault.TheVariants as archive
 use Rattle.node_loop.specs.declared.end.ServeEnd.{ServeEnd}
@@ -32,7 +33,7 @@ use Rattle.node_loop.specs.Outs.{Outs, Tells}
 use Rattle.node_loop.specs.Recovering.{recovered}
 use Rattle.node_loop.specs.Served.{MayBegin}
 use Rattle.node_loop.specs.ServedKept.{EndsKept, earlier_kept, newest_kept}
-use Rattle.node_loop.specs.Serving.{Serving, so_far, frames_made_by, Want, Round, Began, Turned, Reminded, Took}
+use Rattle.node_loop.specs.Serving.{Serving, so_far, frames_made_by, Want, Round, Began, Turned, Closed, Reminded, Took}
 use Rattle.node_loop.specs.Told.{AreGroups, after_groups, came_for, came_in, newest_deeds, deeds_from, told_from, newest_calls, sooner}
 use Rattle.node_loop.proofs.Fitting.{all_fit}
 use Rattle.node_loop.proofs.FramesSent.{acts_are, are_made, items_acts, made_next, newest_behind}
@@ -62,7 +63,9 @@ item_none : (x : Round) (group : List Round) → firsts_in (came_for x group) �
 item_none (Began item) [] = refl
 item_none (Began item) (y ∷ group) = refl
 item_none (Turned i) [] = refl
+item_none (Closed i epoch) [] = refl
 item_none (Turned i) (y ∷ group) = refl
+item_none (Closed i epoch) (y ∷ group) = refl
 item_none (Reminded i j) [] = refl
 item_none (Reminded i j) (y ∷ group) = refl
 item_none (Took item) [] = refl
@@ -129,13 +132,13 @@ module _ (w : Setting) (going : NoneStops w) (past : List Event) where
       → news_in groups ++ sooner_in groups ≡ map (act_of w.keys) (deeds_in groups)
   calls_done groups = calls_are groups ∙ acts_are w past begun groups
 
-  module _ (until limit : ℕ) where
+  module _ (limits : Limits) where
     -- what is kept makes what went out for the first time
-    pub kept_make : (groups : List (List Round)) → AreGroups w past until limit begun groups
+    pub kept_make : (groups : List (List Round)) → AreGroups w past limits begun groups
         → all_frames_of w (kept_in groups ++ past) ≡ all_frames_of w past ++ first_sendings (deeds_in groups)
     kept_make groups are =
         let es = (after_groups w past begun groups).events in
-        let served = all_fit w past until limit begun groups (All-from_recursion MayBegin [] tt) tt are in
+        let served = all_fit w past limits begun groups (All-from_recursion MayBegin [] tt) tt are in
         let before = all_made w past in
         let made = are_made w past begun before [] groups (sym (append-nil before)) in
         makes_kept w past es going (all_called w es served)
@@ -143,7 +146,7 @@ module _ (w : Setting) (going : NoneStops w) (past : List Event) where
 
     module _ (es : List Event) (before now : List LinkAct) where
       -- where all is kept, and the link did the older ones of the deeds
-      pub all_print : (groups : List (List Round)) → AreGroups w past until limit begun groups
+      pub all_print : (groups : List (List Round)) → AreGroups w past limits begun groups
           → es ≡ kept_in groups ++ past → TookBack before now (Gives items.End ∷ (news_in groups ++ sooner_in groups))
           → PrintsLife w past es (life_deeds w past groups) before now
       all_print groups are is took =
@@ -172,7 +175,7 @@ module _ (w : Setting) (going : NoneStops w) (past : List Event) where
           }
 
       -- where all but the newest group's is, of which nothing went out
-      pub older_print : (groups : List (List Round)) → AreGroups w past until limit begun groups
+      pub older_print : (groups : List (List Round)) → AreGroups w past limits begun groups
           → es ≡ earlier_in groups ++ past → now ≡ sooner_in groups ++ before
           → PrintsLife w past es (life_deeds w past groups) before now
       older_print [] are is none =
@@ -200,7 +203,7 @@ module _ (w : Setting) (going : NoneStops w) (past : List Event) where
           }
 
       -- where its events are kept or not, and nothing of it went out
-      pub either_print : (groups : List (List Round)) → AreGroups w past until limit begun groups
+      pub either_print : (groups : List (List Round)) → AreGroups w past limits begun groups
           → (es ≡ (newest_in groups ++ earlier_in groups) ++ past) ⊎ (es ≡ earlier_in groups ++ past)
           → now ≡ sooner_in groups ++ before → PrintsLife w past es (life_deeds w past groups) before now
       either_print groups are (inl with_it) none =
@@ -218,7 +221,7 @@ module _ {S E C : Type 0} (m : Meaning S E C KeyRow) (w : Setting) (going : None
     (stands : (given : List Event) → now.stands given → es ≡ given ++ past)
     (fails : (fault : ArchiveFault) (group older : List Event) → now.fails fault group older
     → (es ≡ (group ++ older) ++ past) ⊎ (es ≡ older ++ past))
-    (until limit : ℕ) (groups : List (List Round)) (are : AreGroups w past until limit (recovered w past) groups) where
+    (limits : Limits) (groups : List (List Round)) (are : AreGroups w past limits (recovered w past) groups) where
   abbrev news : List LinkAct
   news = news_in w going past groups
 
@@ -242,10 +245,10 @@ module _ {S E C : Type 0} (m : Meaning S E C KeyRow) (w : Setting) (going : None
 
   older_left : now.stands earlier → NothingNew → Prints
   older_left held none =
-      older_print w going past until limit es base.told now.outs.told groups are (stands earlier held) (none linked)
+      older_print w going past limits es base.told now.outs.told groups are (stands earlier held) (none linked)
 
   all_left : now.stands kept → TookBack base.told now.outs.told (Gives items.End ∷ (news ++ old_calls)) → Prints
-  all_left held took = all_print w going past until limit es base.told now.outs.told groups are (stands kept held) took
+  all_left held took = all_print w going past limits es base.told now.outs.told groups are (stands kept held) took
 
   -- all of them were told
   whole_left : now.stands kept → (tells.link ≡ true → now.outs.told ≡ (news ++ old_calls) ++ base.told) → Prints
@@ -262,11 +265,12 @@ module _ {S E C : Type 0} (m : Meaning S E C KeyRow) (w : Setting) (going : None
   failed : (fault : ArchiveFault) → now.fails fault newest earlier → NothingNew → Prints
   failed fault held none =
       let opens = fails fault newest earlier held in
-      either_print w going past until limit es base.told now.outs.told groups are opens (none linked)
+      either_print w going past limits es base.told now.outs.told groups are opens (none linked)
 
   pub end_prints : (end : ServeEnd) (before written : List Event) (s : Serving) (rule : Want)
       → EndsKept m w [] numbers here tells base now.outs end before s old_calls news rule
       → KeptAt now (reach tells base now.outs before written old_calls) kept newest earlier end → Prints
+  end_prints ends.Over before written s rule so held = whole_left held so.agrees.told
   end_prints ends.Done before written s rule so held = whole_left held so.agrees.told
   end_prints ends.Limit before written s rule so held = whole_left held so.agrees.told
   end_prints (ends.KeptFull x) before written s rule so held = whole_left held so.agrees.told
@@ -293,7 +297,7 @@ OneReading = (me : ℕ) (head file : List ℕ) (es fs : List Event) → length h
 
 pub lives_print : OneReading → {S E C D : Type 0} (m : Meaning S E C KeyRow) (storage : DiskGhosts D)
     → LivesPrint m storage
-lives_print one m storage head w past numbers here tells base outs me old new journal end until limit going long stored
+lives_print one m storage head w past numbers here tells base outs me old new journal end limits going long stored
     linked served image es may opens =
     let now = journal_moment storage head past me old outs journal new in
     let reads : (fs : List Event) → journal.me ≡ me → Opens journal.me head image fs → es ≡ fs =
@@ -304,7 +308,7 @@ lives_print one m storage head w past numbers here tells base outs me old new jo
       | inl with_it ↦ inl (reads (group ++ (older ++ past)) held.0 with_it ∙ sym (append_assoc group older past))
       | inr without ↦ inr (reads (older ++ past) held.0 without)
     ])
-    until limit served.groups served.are end _ (so_far past (after_groups w past (recovered w past) served.groups)) _ _
+    limits served.groups served.are end _ (so_far past (after_groups w past (recovered w past) served.groups)) _ _
     served.so served.kept
 
 -- ---- several lives

@@ -21,8 +21,9 @@ use Rattle.link_resume.specs.declared.kept.Kept.{Kept}
 use Rattle.link_resume.specs.Lists.{bytes_in, most_kept, may_have, between, all_but, room_within, room_for}
 use Rattle.world_model.specs.World.{Setting, seen_of}
 use Rattle.world_model.specs.MadeOrder.{MadeFrame, all_made}
+use Rattle.node_loop.specs.declared.limits.Limits.{Limits}
 use Rattle.node_loop.specs.Waiting.{Waiting}
-use Rattle.node_loop.specs.Calls.{Outcome, event_called, silent, item_does, first_does}
+use Rattle.node_loop.specs.Calls.{Outcome, event_called, silent, item_does, first_does, epoch_closed}
 use Rattle.node_loop.specs.declared.peers.Early.{Early}
 use Rattle.node_loop.specs.Peers.{Peers, is_pair, with_list, with_mark, early_with, marked_early, with_pending, keeps, keep_one, keep_all, acknowledged}
 use Rattle.node_loop.specs.Deeds.{Deed, Came, Made, Resent, Acked, Wished, Replied, pushed, is_resent, has_resent, says_so, acks, is_first, is_connected}
@@ -31,7 +32,7 @@ use Rattle.node_loop.specs.declared.output.Part.TheVariants as parts_are
 use Rattle.node_loop.specs.declared.peers.Pending.{Pending}
 use Rattle.node_loop.specs.Resending.{Brought, nothing_more, mark_at, is_deferred, opened_so, part_of, resends, newest_in, batch_step, has_none, before, sends_batch, goes_on, begins_at, begins_unless, acked_so, asked_so, connected, noted_so}
 use Rattle.node_loop.proofs.Batching.{part_all}
-use Rattle.node_loop.specs.Serving.{Serving, so_far, Round, Began, Turned, Reminded, Took, frames_made_by, brought, outcome, after_from}
+use Rattle.node_loop.specs.Serving.{Serving, so_far, Round, Began, Turned, Closed, Reminded, Took, frames_made_by, brought, outcome, after_from}
 use Rattle.node_loop.specs.Told.{AreJoined, AreGroups, after_groups, came_in, with_deeds, newest_deeds, deeds_from}
 use Rattle.node_loop.specs.Recovering.{keep_newest, all_newest, recalled_peers, recalled_deeds}
 use Rattle.node_loop.specs.Laws.{IsUnacknowledged, AllSent, AreOpen, ResendsAreOpen, RecalledAreSent, RecalledAreOpen}
@@ -349,6 +350,7 @@ up_good w version at peer p ds false good = good
 round_good : (w : Setting) (past : List Event) (x : Round) (s : Serving) (ds : List Deed) → Good w s.peers ds → RoundGood w past x s ds
 round_good w past (Began item) s ds good = plain_good w (so_far past s) (first_does w (so_far past s) item s.waiting) s.peers ds good
 round_good w past (Turned i) s ds good = plain_good w (so_far past s) (event_called w (so_far past s) i (events.Turn i) s.waiting) s.peers ds good
+round_good w past (Closed i epoch) s ds good = plain_good w (so_far past s) (epoch_closed w (so_far past s) i epoch s.waiting) s.peers ds good
 round_good w past (Reminded i j) s ds good = asked_good w i j _ s.peers ds good
 round_good w past (Took (items.Frame to bytes)) s ds good =
     frame_good w (so_far past s) to bytes s.waiting s.peers ds (w.is_correct to) (is_note bytes) refl refl good
@@ -470,19 +472,19 @@ still_good w p a b stay good = record {
   again = stay.again good.again;
 }
 
-groups_good : (w : Setting) (past : List Event) (until limit : ℕ) (start : Serving) (ds : List Deed) (groups : List (List Round))
-    → AreGroups w past until limit start groups → Good w start.peers ds → Good w (after_groups w past start groups).peers (deeds_from w past start ds groups)
-groups_good w past until limit start ds [] are good = good
-groups_good w past until limit start ds (group ∷ older) are good =
+groups_good : (w : Setting) (past : List Event) (limits : Limits) (start : Serving) (ds : List Deed) (groups : List (List Round))
+    → AreGroups w past limits start groups → Good w start.peers ds → Good w (after_groups w past start groups).peers (deeds_from w past start ds groups)
+groups_good w past limits start ds [] are good = good
+groups_good w past limits start ds (group ∷ older) are good =
     let s = after_groups w past start older in
     let below = deeds_from w past start ds older in
     still_good w (after_from w past s group).peers (in_order w past s below group) (newest_deeds w past s (came_in group ++ below) group)
     (together IsNew (StayOpen w) (open_stay w) (λ f. refl) (λ sent. refl) w past s below group (new_before w past s group are.0.joined))
-    (good_in_order w past s below group (groups_good w past until limit start ds older are.2 good))
+    (good_in_order w past s below group (groups_good w past limits start ds older are.2 good))
 
 pub resends_open : ResendsAreOpen
-resends_open w past until limit start ds groups are sent again =
-    (groups_good w past until limit start ds groups are (record { sent = sent; again = again })).again
+resends_open w past limits start ds groups are sent again =
+    (groups_good w past limits start ds groups are (record { sent = sent; again = again })).again
 
 -- ---- events that a journal kept
 

@@ -25,8 +25,9 @@ use Rattle.node_loop.specs.Deeds.{Deed, Came, Made, Resent, Acked, Wished, Repli
 use Rattle.node_loop.specs.Resending.{Brought}
 use Rattle.node_loop.proofs.FramesSent.{IsBesides, item_besides}
 use Rattle.node_loop.specs.Waiting.{Waiting, with_waiter}
-use Rattle.node_loop.specs.Calls.{Outcome, reply, reply_each, asked_by, waiting_left_by, replies_by, event_called, asked_in, refusal_in, submitted, submitted_so, silent, is_waited_for, asked_so, asks_so, asks_but, asks, if_here, item_does, first_does}
-use Rattle.node_loop.specs.Serving.{Serving, so_far, as_sent, frames_made_by, sent_by, sent_of, onto, with_outcome, Round, Began, Turned, Reminded, Took, began, took, at_call, outcome, brought, round_does, after_from}
+use Rattle.node_loop.specs.Calls.{Outcome, reply, reply_each, asked_by, waiting_left_by, replies_by, event_called, asked_in, refusal_in, submitted, submitted_so, silent, is_waited_for, asked_so, asks_so, asks_but, asks, if_here, item_does, first_does, epoch_closed, turned_away, offered_unless}
+use Rattle.node_loop.specs.Chains.{closing_command, is_reserved, is_crowded}
+use Rattle.node_loop.specs.Serving.{Serving, so_far, as_sent, frames_made_by, sent_by, sent_of, onto, with_outcome, Round, Began, Turned, Closed, Reminded, Took, began, took, at_call, outcome, brought, round_does, after_from}
 use Rattle.node_loop.specs.Told.{after_groups, given_for, given_in, news_from, told_from}
 use Rattle.node_loop.proofs.Comings.{request_asked}
 use Rattle.node_loop.proofs.Logs.{rows_are_once, position_in_part}
@@ -102,7 +103,9 @@ given_none (x ∷ group) = replies_more (given_for x group) (given_in group) ∙
     none (Began item) [] = refl
     none (Began item) (y ∷ group) = refl
     none (Turned i) [] = refl
+    none (Closed i epoch) [] = refl
     none (Turned i) (y ∷ group) = refl
+    none (Closed i epoch) (y ∷ group) = refl
     none (Reminded i j) [] = refl
     none (Reminded i j) (y ∷ group) = refl
     none (Took item) [] = refl
@@ -196,11 +199,22 @@ module _ (w : Setting) (once : AreOnce w.start.base) (F : List Event → Round �
   asked_holds : (es : List Event) (at : ℕ) (conn : Option ℕ) (bytes : List ℕ) (ws : Waiting) (place : Option ℕ)
       → position_of (rows_at w es at) (asked_in at bytes).client (asked_in at bytes).request ≡ place → HoldsOf es (asked_so w es at conn bytes ws place)
   asked_holds es at conn bytes ws (Some position) is = reply_holds es at (asked_in at bytes).client (asked_in at bytes).request position is conn
-  asked_holds es at conn bytes ws None is = here (is_waited_for (ws (asked_in at bytes)))
+  asked_holds es at conn bytes ws None is = reserved (is_reserved w (asked_in at bytes).client)
     where
-      here : (b : Bool) → HoldsOf es (if b then silent [] (with_waiter (asked_in at bytes) conn ws) else submitted w es at conn bytes ws)
-      here true = tt
-      here false = submitted_holds es at conn bytes ws (refusal_in (seen_of w es (events.Input at bytes)))
+      away : (code : ℕ) → HoldsOf es (turned_away at conn bytes code ws)
+      away code = refusal_holds es at (asked_in at bytes).client (asked_in at bytes).request code conn
+
+      crowded : (b : Bool) → HoldsOf es (if b then turned_away at conn bytes 7 ws else submitted w es at conn bytes ws)
+      crowded true = away 7
+      crowded false = submitted_holds es at conn bytes ws (refusal_in (seen_of w es (events.Input at bytes)))
+
+      waited : (b : Bool) → HoldsOf es (offered_unless w es at conn bytes ws b)
+      waited true = tt
+      waited false = crowded (is_crowded w es at)
+
+      reserved : (b : Bool) → HoldsOf es (if b then turned_away at conn bytes 8 ws else offered_unless w es at conn bytes ws (is_waited_for (ws (asked_in at bytes))))
+      reserved true = away 8
+      reserved false = waited (is_waited_for (ws (asked_in at bytes)))
 
   asks_hold : (es : List Event) (at : ℕ) (conn : Option ℕ) (bytes : List ℕ) (ws : Waiting) (r : Option Request) → request_in bytes ≡ r
       → HoldsOf es (asks_so w es at conn bytes ws r)
@@ -280,6 +294,9 @@ module _ (w : Setting) (once : AreOnce w.start.base) (F : List Event → Round �
       outcome_holds past (first_does w (so_far past s) item s.waiting) (brought w past (Began item) s) (began s) xs tt all (first_holds (so_far past s) item s.waiting)
   round_holds past (Turned i) s xs fits all =
       outcome_holds past (event_called w (so_far past s) i (events.Turn i) s.waiting) (brought w past (Turned i) s) s xs tt all (called_holds (so_far past s) i (events.Turn i) s.waiting)
+  round_holds past (Closed i epoch) s xs fits all =
+      outcome_holds past (epoch_closed w (so_far past s) i epoch s.waiting) (brought w past (Closed i epoch) s) s xs tt all
+      (submitted_holds (so_far past s) i None (closing_command epoch) s.waiting (refusal_in (seen_of w (so_far past s) (events.Input i (closing_command epoch)))))
   round_holds past (Reminded i j) s xs fits all = outcome_holds past (silent [] s.waiting) (brought w past (Reminded i j) s) s xs (tt, tt) all tt
   round_holds past (Took item) s xs fits all =
       outcome_holds past (item_does w (so_far past s) item s.waiting) (brought w past (Took item) s) (took s) xs

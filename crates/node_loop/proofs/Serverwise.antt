@@ -7,6 +7,7 @@ use Rattle.ritas_core.specs.Stands.{Meaning}
 use Rattle.replica.specs.declared.replica.Replica.{Replica}
 use Rattle.world_model.specs.World.{Setting}
 use Rattle.node_loop.specs.declared.end.ServeEnd.{ServeEnd}
+use Rattle.node_loop.specs.declared.limits.Limits.{Limits}
 use Rattle.node_loop.specs.declared.server.Server.{Server}
 use Rattle.node_loop.specs.Again.{ServesAgain}
 use Rattle.node_loop.specs.Archives.{Moment}
@@ -18,23 +19,18 @@ use Rattle.node_loop.specs.Serving.{Serving}
 -- ---- it is the same server
 
 pub same_self : {L K A D : Type 0} (server : Server L K A D) → IsSameServer server server
-same_self server = record { link = refl; tape = refl; archive = refl; disk = refl; until = refl; limit = refl }
+same_self server = record { link = refl; tape = refl; archive = refl; disk = refl; limits = refl }
 
 -- ---- for how long it served
 
 module _ {S E C : Type 0} (m : Meaning S E C KeyRow) (w : Setting) (past : List Event) (numbers : List ℕ) (here : List (Replica S E C)) (tells : Tells) (base : Outs) (now : Moment)
     (end : ServeEnd) where
-  pub served_for : (start : Serving) (until limit n k : ℕ) → n ≡ until → k ≡ limit → ServesKept m w past numbers here tells base now end n k start
-      → ServesKept m w past numbers here tells base now end until limit start
-  served_for start until limit n k is_until is_limit served =
-      subst (λ (a : ℕ). ServesKept m w past numbers here tells base now end until a start) is_limit
-      (subst (λ (a : ℕ). ServesKept m w past numbers here tells base now end a k start) is_until served)
+  pub served_for : (start : Serving) (limits k : Limits) → k ≡ limits → ServesKept m w past numbers here tells base now end k start
+      → ServesKept m w past numbers here tells base now end limits start
+  served_for start limits k same served = subst (λ (a : Limits). ServesKept m w past numbers here tells base now end a start) same served
 
-  pub served_again_for : (until limit n k : ℕ) → n ≡ until → k ≡ limit → ServesAgain m w past numbers here tells base now end n k
-      → ServesAgain m w past numbers here tells base now end until limit
-  served_again_for until limit n k is_until is_limit served =
-      subst (λ (a : ℕ). ServesAgain m w past numbers here tells base now end until a) is_limit
-      (subst (λ (a : ℕ). ServesAgain m w past numbers here tells base now end a k) is_until served)
+  pub served_again_for : (limits k : Limits) → k ≡ limits → ServesAgain m w past numbers here tells base now end k → ServesAgain m w past numbers here tells base now end limits
+  served_again_for limits k same served = subst (λ (a : Limits). ServesAgain m w past numbers here tells base now end a) same served
 
 -- ---- before it did anything
 

@@ -1,5 +1,5 @@
--- A turn that is wanted is one at a correct replica, and a peer that is to be asked is one of its peers.
-use Rattle.std.proofs.Common.{◌≡◌, ℕ, suc, ◌+◌, ◌<◌, Bool, true, false, List, [], ◌∷◌, ◌++◌, filter, map, nat_le, refl, subst, arith, if◌then◌else◌}
+-- A turn that is wanted is one at a correct replica, as is the closing of an epoch, and a peer that is to be asked is one of its peers.
+use Rattle.std.proofs.Common.{◌≡◌, ℕ, suc, ◌+◌, ◌<◌, Bool, true, false, List, [], ◌∷◌, ◌++◌, filter, map, nat_le, Option, Some, None, refl, subst, arith, if◌then◌else◌}
 use Rattle.std.specs.List.{AllByRecursion, flat_map, range_with_len}
 use Rattle.ritas_base.specs.declared.event.Event.{Event}
 use Rattle.ritas_base.specs.History.{replicas}
@@ -7,7 +7,10 @@ use Rattle.world_model.specs.World.{Setting}
 use Rattle.node_loop.specs.declared.peers.Pair.{Pair}
 use Rattle.node_loop.specs.Peers.{Peers, is_due_of}
 use Rattle.node_loop.specs.Resending.{mark_at, peers_due, due}
-use Rattle.node_loop.specs.Serving.{Want, Finishes, Overflows, Turns, Halts, Reminds, here, busy, has_enough_rows, kept_bytes, overfull, overflow_or, turn_or, remind_or, wants_of}
+use Rattle.node_loop.specs.declared.limits.Closing.{Closing}
+use Rattle.node_loop.specs.declared.limits.Limits.{Limits}
+use Rattle.node_loop.specs.Serving.{Want, Begins, Ends, Finishes, Overflows, Turns, Closes, Halts, Reminds, Asks, here, busy, is_epoch_over, has_enough_rows, kept_bytes, overfull, overflow_or, turn_or, remind_or, wishes_to_close, wishing, close_or, closing_or, halt_or, wants_of}
+use Rattle.node_loop.specs.Waiting.{Waiting}
 
 abbrev AreCorrect : Setting → List ℕ → Type 0
 AreCorrect w is = AllByRecursion (λ i. w.is_correct i ≡ true) is
@@ -60,50 +63,62 @@ due_peers w es p (i ∷ is) right =
 
 -- ---- what is wanted
 
--- what is wanted behind the bytes that are kept is wanted, where those aren't told
-behind_overflow : (A : Type 0) (bytes : ℕ → ℕ) (is : List ℕ) (other want : Want) → ((k : ℕ) → Overflows k ≡ want → ⊥) → (other ≡ want → A) → overflow_or bytes is other ≡ want → A
-behind_overflow A bytes [] other want none so e = so e
-behind_overflow A bytes (i ∷ is) other want none so e = absurd (none (bytes i) e)
+-- where no first item is left: a turn is taken and an epoch is closed at a correct replica, and a peer of one is asked
+abbrev pub MayBeWanted : Setting → Want → Type 0
+MayBeWanted w (Begins item) = ⊥
+MayBeWanted w Ends = Unit {0}
+MayBeWanted w Finishes = Unit {0}
+MayBeWanted w (Overflows x) = Unit {0}
+MayBeWanted w (Turns i) = w.is_correct i ≡ true
+MayBeWanted w (Closes i epoch) = w.is_correct i ≡ true
+MayBeWanted w Halts = Unit {0}
+MayBeWanted w (Reminds i j) = (w.is_correct i ≡ true) × (j < w.numbers.n)
+MayBeWanted w Asks = Unit {0}
 
-turn_correct : (w : Setting) (is : List ℕ) (ask : Bool) (pairs : List Pair) (at : ℕ) → AreCorrect w is
-    → turn_or is (if ask then Halts else remind_or pairs) ≡ Turns at → w.is_correct at ≡ true
-turn_correct w [] true pairs at all e = absurd (cc)
-turn_correct w [] false [] at all e = absurd (cc)
-turn_correct w [] false (pair ∷ pairs) at all e = absurd (cc)
-turn_correct w (i ∷ is) ask pairs at all e = let same : i ≡ at = cc in subst (λ (k : ℕ). w.is_correct k ≡ true) same all.0
+module _ (w : Setting) where
+  halts_may : (b : Bool) (pairs : List Pair) → AllByRecursion (IsPeerOf w) pairs → MayBeWanted w (if b then Halts else remind_or pairs)
+  halts_may true pairs all = tt
+  halts_may false [] all = tt
+  halts_may false (pair ∷ pairs) all = all.0
 
-pub turns_correct : (w : Setting) (until limit : ℕ) (es : List Event) (taken : ℕ) (p : Peers) (at : ℕ) → wants_of w until limit es taken p ≡ Turns at → w.is_correct at ≡ true
-turns_correct w until limit es taken p at = go (has_enough_rows w until es)
-  where
-    other : Want
-    other = turn_or (busy w es) (if nat_le limit taken then Halts else remind_or (due w es (here w) p))
+  close_may : (epoch : ℕ) (is : List ℕ) (other : Want) → AreCorrect w is → MayBeWanted w other → MayBeWanted w (close_or epoch is other)
+  close_may epoch [] other all may = may
+  close_may epoch (i ∷ is) other all may = all.0
 
-    go : (b : Bool) → (if b then Finishes else overflow_or (kept_bytes w p) (overfull w p) other) ≡ Turns at → w.is_correct at ≡ true
-    go true e = absurd (cc)
-    go false e =
-        behind_overflow _ (kept_bytes w p) (overfull w p) other (Turns at) (λ k no. absurd (cc))
-        (turn_correct w (busy w es) (nat_le limit taken) (due w es (here w) p) at (correct_busy w es)) e
+  closing_may : (closing : Option Closing) (es : List Event) (ws : Waiting) (other : Want) → MayBeWanted w other → MayBeWanted w (closing_or w closing es ws other)
+  closing_may None es ws other may = may
+  closing_may (Some closing) es ws other may =
+      close_may closing.epoch (wishing w closing es ws) other (some_pass (λ i. w.is_correct i ≡ true) (wishes_to_close w closing es ws) (here w) (correct_here w)) may
 
-remind_peer : (w : Setting) (is : List ℕ) (ask : Bool) (pairs : List Pair) (i j : ℕ) → AllByRecursion (IsPeerOf w) pairs
-    → turn_or is (if ask then Halts else remind_or pairs) ≡ Reminds i j → (w.is_correct i ≡ true) × (j < w.numbers.n)
-remind_peer w [] true pairs i j all e = absurd (cc)
-remind_peer w [] false [] i j all e = absurd (cc)
-remind_peer w [] false (pair ∷ pairs) i j all e =
-    let at : pair.at ≡ i = cc in
-    let peer : pair.peer ≡ j = cc in
-    (subst (λ (k : ℕ). w.is_correct k ≡ true) at all.0.0, subst (λ (k : ℕ). k < w.numbers.n) peer all.0.1)
-remind_peer w (k ∷ ks) ask pairs i j all e = absurd (cc)
+  turn_may : (is : List ℕ) (other : Want) → AreCorrect w is → MayBeWanted w other → MayBeWanted w (turn_or is other)
+  turn_may [] other all may = may
+  turn_may (i ∷ is) other all may = all.0
 
--- a peer of a replica that is to be asked is one of its peers, and the replica is here
-pub reminds_peer : (w : Setting) (until limit : ℕ) (es : List Event) (taken : ℕ) (p : Peers) (i j : ℕ) → wants_of w until limit es taken p ≡ Reminds i j
-    → (w.is_correct i ≡ true) × (j < w.numbers.n)
-reminds_peer w until limit es taken p i j = go (has_enough_rows w until es)
-  where
-    other : Want
-    other = turn_or (busy w es) (if nat_le limit taken then Halts else remind_or (due w es (here w) p))
+  overflow_may : (bytes : ℕ → ℕ) (is : List ℕ) (other : Want) → MayBeWanted w other → MayBeWanted w (overflow_or bytes is other)
+  overflow_may bytes [] other may = may
+  overflow_may bytes (i ∷ is) other may = tt
 
-    go : (b : Bool) → (if b then Finishes else overflow_or (kept_bytes w p) (overfull w p) other) ≡ Reminds i j → (w.is_correct i ≡ true) × (j < w.numbers.n)
-    go true e = absurd (cc)
-    go false e =
-        behind_overflow _ (kept_bytes w p) (overfull w p) other (Reminds i j) (λ k no. absurd (cc))
-        (remind_peer w (busy w es) (nat_le limit taken) (due w es (here w) p) i j (due_peers w es p (here w) (correct_here w))) e
+  done_may : (b : Bool) (other : Want) → MayBeWanted w other → MayBeWanted w (if b then Finishes else other)
+  done_may true other may = tt
+  done_may false other may = may
+
+  over_may : (b : Bool) (other : Want) → MayBeWanted w other → MayBeWanted w (if b then Ends else other)
+  over_may true other may = tt
+  over_may false other may = may
+
+  pub may_be_wanted : (limits : Limits) (es : List Event) (taken : ℕ) (ws : Waiting) (p : Peers) → MayBeWanted w (wants_of w limits es taken ws p)
+  may_be_wanted limits es taken ws p =
+      let halts = halts_may (nat_le limits.items taken) (due w es (here w) p) (due_peers w es p (here w) (correct_here w)) in
+      let turns = turn_may (busy w es) (closing_or w limits.closing es ws (halt_or w limits es taken p)) (correct_busy w es) (closing_may limits.closing es ws (halt_or w limits es taken p) halts) in
+      over_may (is_epoch_over w es) _ (done_may (has_enough_rows w limits.rows es) _ (overflow_may (kept_bytes w p) (overfull w p) _ turns))
+
+  pub turns_correct : (limits : Limits) (es : List Event) (taken : ℕ) (ws : Waiting) (p : Peers) (at : ℕ) → wants_of w limits es taken ws p ≡ Turns at → w.is_correct at ≡ true
+  turns_correct limits es taken ws p at is = subst (MayBeWanted w) is (may_be_wanted limits es taken ws p)
+
+  pub closes_correct : (limits : Limits) (es : List Event) (taken : ℕ) (ws : Waiting) (p : Peers) (at epoch : ℕ) → wants_of w limits es taken ws p ≡ Closes at epoch → w.is_correct at ≡ true
+  closes_correct limits es taken ws p at epoch is = subst (MayBeWanted w) is (may_be_wanted limits es taken ws p)
+
+  -- a peer of a replica that is to be asked is one of its peers, and the replica is here
+  pub reminds_peer : (limits : Limits) (es : List Event) (taken : ℕ) (ws : Waiting) (p : Peers) (i j : ℕ) → wants_of w limits es taken ws p ≡ Reminds i j
+      → (w.is_correct i ≡ true) × (j < w.numbers.n)
+  reminds_peer limits es taken ws p i j is = subst (MayBeWanted w) is (may_be_wanted limits es taken ws p)

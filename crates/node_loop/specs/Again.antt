@@ -8,6 +8,7 @@ use Rattle.event_journal.specs.Appending.{JournalState}
 use Rattle.outside.specs.declared.disk.Disk.{Ghosts as DiskGhosts}
 use Rattle.world_model.specs.World.{Setting}
 use Rattle.node_loop.specs.declared.end.ServeEnd.{ServeEnd}
+use Rattle.node_loop.specs.declared.limits.Limits.{Limits}
 use Rattle.node_loop.specs.Archives.{Moment, KeptAt, reach}
 use Rattle.node_loop.specs.Journals.{OpenedAs, journal_moment}
 use Rattle.node_loop.specs.Keeping.{kept_of}
@@ -25,13 +26,13 @@ use Rattle.node_loop.specs.Told.{AreGroups, after_groups, newest_calls, sooner}
 -- A tape that fails over the past ones, and want of memory there, are ends before any round; where
 -- memory ran out there, none was written. Each query, and the log that it found, fits a piece.
 pub record ServesAgain {S E C : Type 0} (m : Meaning S E C KeyRow) (w : Setting) (past : List Event) (numbers : List ℕ) (here : List (Replica S E C))
-    (tells : Tells) (base : Outs) (now : Moment) (end : ServeEnd) (until limit : ℕ) : Type 0 where
+    (tells : Tells) (base : Outs) (now : Moment) (end : ServeEnd) (limits : Limits) : Type 0 where
   pub groups : List (List Round)
-  pub are : AreGroups w past until limit (recovered w past) groups
+  pub are : AreGroups w past limits (recovered w past) groups
   pub queries : QueriesFit w past (recovered w past) groups
   pub so : EndsKept m w [] numbers here tells base now.outs end (earlier_with w past groups) (with_past past (after_groups w past (recovered w past) groups))
       (sooner w past (recovered w past) groups) (newest_calls w past (recovered w past) groups)
-      (wants w past until limit (after_groups w past (recovered w past) groups))
+      (wants w past limits (after_groups w past (recovered w past) groups))
   pub kept : KeptAt now
       (reach tells base now.outs (earlier_with w past groups) (so_far past (after_groups w past (recovered w past) groups)) (sooner w past (recovered w past) groups))
       (kept_of w past (after_groups w past (recovered w past) groups).events) (newest_kept w past (recovered w past) groups)
@@ -57,11 +58,11 @@ life replicas journal disk outs = record {
 -- Where the replicas are those of a world before any event, the journal's is one of them, and the
 -- journal was opened as the recovered events, which stand in their order, it ended so.
 abbrev pub ServesAfter : {S E C D : Type 0} → Meaning S E C KeyRow → DiskGhosts D → Tells
-    → List Event → Life S E C D → Life S E C D → ServeEnd → ℕ → ℕ → Type 0
-ServesAfter m storage tells recovered old new end until limit =
+    → List Event → Life S E C D → Life S E C D → ServeEnd → Limits → Type 0
+ServesAfter m storage tells recovered old new end limits =
     (head : List ℕ) (w : Setting) (numbers : List ℕ)
     → AreHere m w [] numbers old.replicas → w.is_correct old.journal.me ≡ true
     → OpenedAs storage head (reverse recovered) old.journal old.disk
     → ServesAgain m w (reverse recovered) numbers new.replicas tells old.outs
     (journal_moment storage head (reverse recovered) old.journal.me old.disk new.outs
-    new.journal new.disk) end until limit
+    new.journal new.disk) end limits

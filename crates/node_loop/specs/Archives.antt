@@ -46,6 +46,7 @@ ArchiveLeftAt now far kept group older faults.Mem =
 
 -- the same at an end
 abbrev pub KeptAt : Moment → Reach → List Event → List Event → List Event → ServeEnd → Type 0
+KeptAt now far kept group older ends.Over = now.stands kept
 KeptAt now far kept group older ends.Done = now.stands kept
 KeptAt now far kept group older ends.Limit = now.stands kept
 KeptAt now far kept group older ends.End = now.stands kept

@@ -20,6 +20,7 @@ use Rattle.world_model.specs.World.{Setting, seen_of}
 use Rattle.world_model.specs.Agree.{rows_at}
 use Rattle.node_loop.specs.declared.waiting.Asked.{Asked}
 use Rattle.node_loop.specs.Waiting.{Waiting, with_waiter, without_asked, left_off}
+use Rattle.node_loop.specs.Chains.{closing_command, is_reserved, is_crowded}
 
 -- what comes of an item or a turn: the event that it is, if it is one, the replies, and who waits then
 pub record Outcome : Type 0 where
@@ -116,12 +117,26 @@ abbrev pub is_waited_for : List (Option ℕ) → Bool
 is_waited_for [] = false
 is_waited_for (conn ∷ conns) = true
 
--- a request whose row is in the log is replied its position; one that waits isn't submitted again
+-- a request is refused without a call
+abbrev pub turned_away : ℕ → Option ℕ → List ℕ → ℕ → Waiting → Outcome
+turned_away at conn bytes code ws = silent (reply at (refusal_reply (asked_in at bytes).client (asked_in at bytes).request code) conn) ws
+
+-- one that is new is submitted; in an epoch of a chain it is refused as for a full window, where it has no place
+abbrev pub offered : Setting → List Event → ℕ → Option ℕ → List ℕ → Waiting → Outcome
+offered w es at conn bytes ws = if is_crowded w es at then turned_away at conn bytes 7 ws else submitted w es at conn bytes ws
+
+-- one that waits isn't submitted again
+abbrev pub offered_unless : Setting → List Event → ℕ → Option ℕ → List ℕ → Waiting → Bool → Outcome
+offered_unless w es at conn bytes ws true = silent [] (with_waiter (asked_in at bytes) conn ws)
+offered_unless w es at conn bytes ws false = offered w es at conn bytes ws
+
+-- A request whose row is in the log is replied its position. In an epoch of a chain one of the closing client is refused as what is no
+-- input is: replicas alone submit such a one.
 abbrev pub asked_so : Setting → List Event → ℕ → Option ℕ → List ℕ → Waiting → Option ℕ → Outcome
 asked_so w es at conn bytes ws (Some position) =
     silent (reply at (position_reply (asked_in at bytes).client (asked_in at bytes).request position) conn) ws
-asked_so w es at conn bytes ws None = if is_waited_for (ws (asked_in at bytes))
-    then silent [] (with_waiter (asked_in at bytes) conn ws) else submitted w es at conn bytes ws
+asked_so w es at conn bytes ws None = if is_reserved w (asked_in at bytes).client
+    then turned_away at conn bytes 8 ws else offered_unless w es at conn bytes ws (is_waited_for (ws (asked_in at bytes)))
 
 -- what no request is, is submitted, so that it is refused
 abbrev pub asks_so : Setting → List Event → ℕ → Option ℕ → List ℕ → Waiting → Option Request → Outcome
@@ -139,6 +154,12 @@ asks_but w es at conn bytes ws None = asks_so w es at conn bytes ws (request_in 
 -- a client's message to a replica, by a connection or as one of the first items: a query, or what is to be a request
 abbrev pub asks : Setting → List Event → ℕ → Option ℕ → List ℕ → Waiting → Outcome
 asks w es at conn bytes ws = asks_but w es at conn bytes ws (query_in bytes)
+
+-- ---- the end of an epoch
+
+-- a replica closes its epoch: the closing command is an input of it, and nobody is replied to for that
+abbrev pub epoch_closed : Setting → List Event → ℕ → ℕ → Waiting → Outcome
+epoch_closed w es i epoch ws = submitted w es i None (closing_command epoch) ws
 
 -- ---- an item
 

@@ -15,8 +15,9 @@ use Rattle.world_model.specs.World.{Setting, seen_of}
 use Rattle.world_model.specs.EveryWorld.{IsWorld}
 use Rattle.world_model.specs.MadeOrder.{MadeFrame, all_made}
 use Rattle.world_model.specs.Agree.{OneIsPart, rows_at}
+use Rattle.node_loop.specs.declared.limits.Limits.{Limits}
 use Rattle.node_loop.specs.Served.{MayBegin}
-use Rattle.node_loop.specs.Serving.{Serving, so_far, Round, Began, Turned, Reminded, Took, after_from, AreWantedFrom}
+use Rattle.node_loop.specs.Serving.{Serving, so_far, Round, Began, Turned, Closed, Reminded, Took, after_from, AreWantedFrom}
 use Rattle.node_loop.specs.Told.{AreGroups, after_groups, all_rounds, told_from, deeds_from}
 use Rattle.node_loop.specs.Keeping.{IsCallEvent, kept_of}
 use Rattle.node_loop.specs.Peers.{Peers}
@@ -35,20 +36,21 @@ abbrev pub items_of : List Round → List LinkItem
 items_of [] = []
 items_of (Began item ∷ rounds) = items_of rounds
 items_of (Turned i ∷ rounds) = items_of rounds
+items_of (Closed i epoch ∷ rounds) = items_of rounds
 items_of (Reminded i j ∷ rounds) = items_of rounds
 items_of (Took item ∷ rounds) = item ∷ items_of rounds
 
 -- the items decide: of the rounds of two runs that begin alike and go over one list of items, each as far as it came, the ones are the first of
 -- the others
 abbrev pub OneRun : Type 0
-OneRun = (w : Setting) (past : List Event) (until limit : ℕ) (start : Serving) (xs ys : List Round)
-    → AreWantedFrom w past until limit start xs → AreWantedFrom w past until limit start ys
+OneRun = (w : Setting) (past : List Event) (limits : Limits) (start : Serving) (xs ys : List Round)
+    → AreWantedFrom w past limits start xs → AreWantedFrom w past limits start ys
     → OneIsPart (items_of xs) (items_of ys) → OneIsPart xs ys
 
 -- the rounds of groups are what the rules say, one after the other, and lead to what the groups lead to
 abbrev pub GroupsAreRounds : Type 0
-GroupsAreRounds = (w : Setting) (past : List Event) (until limit : ℕ) (start : Serving) (groups : List (List Round)) → AreGroups w past until limit start groups
-    → AreWantedFrom w past until limit start (all_rounds groups) × (after_from w past start (all_rounds groups) ≡ after_groups w past start groups)
+GroupsAreRounds = (w : Setting) (past : List Event) (limits : Limits) (start : Serving) (groups : List (List Round)) → AreGroups w past limits start groups
+    → AreWantedFrom w past limits start (all_rounds groups) × (after_from w past start (all_rounds groups) ≡ after_groups w past start groups)
 
 -- more rounds only add to the events, and more groups to the link's calls
 abbrev pub RoundsGrow : Type 0
@@ -103,8 +105,8 @@ AreOpen w (Wished i j seq ∷ ds) = AreOpen w ds
 AreOpen w (Replied sent ∷ ds) = AreOpen w ds
 
 abbrev pub ResendsAreOpen : Type 0
-ResendsAreOpen = (w : Setting) (past : List Event) (until limit : ℕ) (start : Serving) (ds : List Deed) (groups : List (List Round))
-    → AreGroups w past until limit start groups → AllSent w start.peers ds → AreOpen w ds → AreOpen w (deeds_from w past start ds groups)
+ResendsAreOpen = (w : Setting) (past : List Event) (limits : Limits) (start : Serving) (ds : List Deed) (groups : List (List Round))
+    → AreGroups w past limits start groups → AllSent w start.peers ds → AreOpen w ds → AreOpen w (deeds_from w past start ds groups)
 
 -- what is kept as serving begins after events that a journal kept are frames of these, as if they had gone out before
 abbrev pub RecalledAreSent : Type 0
@@ -184,8 +186,8 @@ IsServed w (events.Sealed from to body) = ⊥
 
 -- each event of serving is one, where those before are
 abbrev pub EventsFit : Type 0
-EventsFit = (w : Setting) (past : List Event) (until limit : ℕ) (start : Serving) (groups : List (List Round)) → All MayBegin start.left
-    → AllByRecursion (IsServed w) start.events → AreGroups w past until limit start groups
+EventsFit = (w : Setting) (past : List Event) (limits : Limits) (start : Serving) (groups : List (List Round)) → All MayBegin start.left
+    → AllByRecursion (IsServed w) start.events → AreGroups w past limits start groups
     → AllByRecursion (IsServed w) (after_groups w past start groups).events
 
 -- ---- what a journal keeps

@@ -1,4 +1,5 @@
 pub mod Waiting
+pub mod Chains
 pub mod Calls
 pub mod Peers
 pub mod Deeds
@@ -29,6 +30,7 @@ pub mod EarnedRounds
 pub mod Keeping
 pub mod KeepingRows
 pub mod Rows
+pub mod ChainRows
 pub mod PeerRows
 pub mod Recalling
 pub mod Again

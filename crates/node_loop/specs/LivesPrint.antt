@@ -16,6 +16,7 @@ use Rattle.event_journal.specs.Appending.{JournalState}
 use Rattle.event_journal.specs.Journal.{OpensAs}
 use Rattle.world_model.specs.Stands.{NoneStops}
 use Rattle.world_model.specs.World.{Setting}
+use Rattle.node_loop.specs.declared.limits.Limits.{Limits}
 use Rattle.node_loop.specs.declared.end.ServeEnd.{ServeEnd}
 use Rattle.node_loop.specs.Again.{ServesAgain}
 use Rattle.node_loop.specs.Deeds.{Deed, Came, act_of, firsts_in}
@@ -61,9 +62,9 @@ module _ {S E C D : Type 0} (m : Meaning S E C KeyRow) (storage : DiskGhosts D) 
   abbrev pub LivesPrint : Type 0
   LivesPrint = (head : List ℕ) (w : Setting) (past : List Event) (numbers : List ℕ) (here : List (Replica S E C))
       (tells : Tells) (base outs : Outs) (me : ℕ) (old new : D) (journal : JournalState) (end : ServeEnd)
-      (until limit : ℕ) → NoneStops w → length head ≡ 51 → storage.tells ≡ true → tells.link ≡ true
+      (limits : Limits) → NoneStops w → length head ≡ 51 → storage.tells ≡ true → tells.link ≡ true
       → (served : ServesAgain m w past numbers here tells base
-      (journal_moment storage head past me old outs journal new) end until limit)
+      (journal_moment storage head past me old outs journal new) end limits)
       → (image : List ℕ) (es : List Event) → MayLeave (disk_state_of (storage.told new)) image
       → OpensAs me head image es → PrintsLife w past es (life_deeds w past served.groups) base.told outs.told
 

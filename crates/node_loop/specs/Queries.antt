@@ -9,7 +9,7 @@ use Rattle.client_port.specs.Messages.{query_in}
 use Rattle.command_log.specs.Index.{HaveFourBytes}
 use Rattle.world_model.specs.World.{Setting}
 use Rattle.world_model.specs.Agree.{rows_at}
-use Rattle.node_loop.specs.Serving.{Serving, so_far, Round, Began, Turned, Reminded, Took, after_from}
+use Rattle.node_loop.specs.Serving.{Serving, so_far, Round, Began, Turned, Closed, Reminded, Took, after_from}
 use Rattle.node_loop.specs.Told.{after_groups}
 
 -- where a message to a replica that is here is a query, its position has four bytes, and so have
@@ -27,6 +27,7 @@ ItemFits w es item = Unit {0}
 abbrev pub RoundFits : Setting → List Event → Round → Type 0
 RoundFits w es (Began item) = Unit {0}
 RoundFits w es (Turned i) = Unit {0}
+RoundFits w es (Closed i epoch) = Unit {0}
 RoundFits w es (Reminded i j) = Unit {0}
 RoundFits w es (Took item) = ItemFits w es item
 

@@ -12,10 +12,11 @@ use Rattle.outside.specs.Links.{LinkAct, Gives}
 use Rattle.world_model.specs.World.{Setting, states_of}
 use Rattle.world_model.specs.EveryWorld.{IsWorld}
 use Rattle.world_model.specs.Stands.{NoneStops, IsReplica}
+use Rattle.node_loop.specs.declared.limits.Limits.{Limits}
 use Rattle.node_loop.specs.declared.end.Fault.TheVariants as faults
 use Rattle.node_loop.specs.declared.end.ServeEnd.{ServeEnd}
 use Rattle.node_loop.specs.declared.end.ServeEnd.TheVariants as ends
-use Rattle.node_loop.specs.Serving.{Serving, begin, so_far, Want, Finishes, Overflows, Halts, Asks, wants, Round}
+use Rattle.node_loop.specs.Serving.{Serving, begin, so_far, Want, Ends, Finishes, Overflows, Halts, Asks, wants, Round}
 use Rattle.node_loop.specs.Told.{AreGroups, after_groups, before_newest, newest_calls, sooner}
 use Rattle.node_loop.specs.Outs.{Outs, Tells, Agrees, StopsPartway}
 use Rattle.node_loop.specs.Queries.{QueriesFit}
@@ -54,6 +55,7 @@ Breaks tells base now end earlier events sooner news = ⊥
 -- are `sooner`. Unless memory ran out, the replicas stand where all events leave them, also those that weren't written.
 abbrev pub EndsSo : {S E C : Type 0} → Meaning S E C KeyRow → Setting → List Event → List ℕ → List (Replica S E C) → Tells → Outs → Outs → ServeEnd → List Event
     → Serving → List LinkAct → List LinkAct → Want → Type 0
+EndsSo m w past numbers here tells base now ends.Over earlier s sooner news rule = Whole m w past numbers here tells base now s (news ++ sooner) rule Ends
 EndsSo m w past numbers here tells base now ends.Done earlier s sooner news rule = Whole m w past numbers here tells base now s (news ++ sooner) rule Finishes
 EndsSo m w past numbers here tells base now ends.Limit earlier s sooner news rule = Whole m w past numbers here tells base now s (news ++ sooner) rule Halts
 EndsSo m w past numbers here tells base now ends.End earlier s sooner news rule = Whole m w past numbers here tells base now s (Gives items.End ∷ (news ++ sooner)) rule Asks
@@ -70,9 +72,9 @@ EndsSo m w past numbers here tells base now (ends.JournalFull x) earlier s soone
 -- items that these took are those that the link gave, before its end: where it tells, each call but
 -- those of the newest group is told. Each query of them, and the log that it found, fits a piece.
 pub record Serves {S E C : Type 0} (m : Meaning S E C KeyRow) (w : Setting) (past : List Event) (numbers : List ℕ) (here : List (Replica S E C))
-    (tells : Tells) (base now : Outs) (end : ServeEnd) (until limit : ℕ) (first : List LinkItem) : Type 0 where
+    (tells : Tells) (base now : Outs) (end : ServeEnd) (limits : Limits) (first : List LinkItem) : Type 0 where
   pub groups : List (List Round)
-  pub are : AreGroups w past until limit (begin first) groups
+  pub are : AreGroups w past limits (begin first) groups
   pub queries : QueriesFit w past (begin first) groups
   pub so : EndsSo m w past numbers here tells base now end (before_newest w past (begin first) groups).events (after_groups w past (begin first) groups)
-      (sooner w past (begin first) groups) (newest_calls w past (begin first) groups) (wants w past until limit (after_groups w past (begin first) groups))
+      (sooner w past (begin first) groups) (newest_calls w past (begin first) groups) (wants w past limits (after_groups w past (begin first) groups))

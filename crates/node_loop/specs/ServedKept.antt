@@ -9,6 +9,7 @@ use Rattle.world_model.specs.World.{Setting}
 use Rattle.node_loop.specs.declared.end.Fault.TheVariants as faults
 use Rattle.node_loop.specs.declared.end.ServeEnd.{ServeEnd}
 use Rattle.node_loop.specs.declared.end.ServeEnd.TheVariants as ends
+use Rattle.node_loop.specs.declared.limits.Limits.{Limits}
 use Rattle.node_loop.specs.Archives.{Moment, KeptAt, reach}
 use Rattle.node_loop.specs.Keeping.{kept_of}
 use Rattle.node_loop.specs.Outs.{Outs, Tells, StopsPartway}
@@ -43,11 +44,11 @@ earlier_kept w past start groups = kept_of w past (before_newest w past start gr
 -- query such as fits a piece, after which it ended so, and the archive stands for what is kept of
 -- their events
 pub record ServesKept {S E C : Type 0} (m : Meaning S E C KeyRow) (w : Setting) (past : List Event) (numbers : List ℕ) (here : List (Replica S E C))
-    (tells : Tells) (base : Outs) (now : Moment) (end : ServeEnd) (until limit : ℕ) (start : Serving) : Type 0 where
+    (tells : Tells) (base : Outs) (now : Moment) (end : ServeEnd) (limits : Limits) (start : Serving) : Type 0 where
   pub groups : List (List Round)
-  pub are : AreGroups w past until limit start groups
+  pub are : AreGroups w past limits start groups
   pub queries : QueriesFit w past start groups
   pub so : EndsKept m w past numbers here tells base now.outs end (before_newest w past start groups).events (after_groups w past start groups)
-      (sooner w past start groups) (newest_calls w past start groups) (wants w past until limit (after_groups w past start groups))
+      (sooner w past start groups) (newest_calls w past start groups) (wants w past limits (after_groups w past start groups))
   pub kept : KeptAt now (reach tells base now.outs (before_newest w past start groups).events (after_groups w past start groups).events (sooner w past start groups))
       (kept_of w past (after_groups w past start groups).events) (newest_kept w past start groups) (earlier_kept w past start groups) end

@@ -34,41 +34,40 @@ pub record IsSameServer {L K A D : Type 0} (old new : Server L K A D) : Type 0 w
   pub tape : new.tape.ghost_name ≡ old.tape.ghost_name
   pub archive : new.archive.ghost_name ≡ old.archive.ghost_name
   pub disk : new.disk.ghost_name ≡ old.disk.ghost_name
-  pub until : new.pace.until ≡ old.pace.until
-  pub limit : new.pace.limit ≡ old.pace.limit
+  pub limits : new.pace.limits ≡ old.pace.limits
 
 -- ---- between two calls
 
 -- it serves this house: all that came of its rounds was delivered, and of its first items these are left
 abbrev pub IsAtWork : {S E C L K A D : Type 0} → Senses S E C L K A D → Outset D → House S E C → Server L K A D → List LinkItem → Type 0
 IsAtWork t o house server left =
-    Running t.layers o.world o.past o.numbers house t.tells o.base (t.moment o.head o.before o.past server) server.pace.taken server.pace.until server.pace.limit
+    Running t.layers o.world o.past o.numbers house t.tells o.base (t.moment o.head o.before o.past server) server.pace.taken server.pace.limits
     o.start left
 
 -- serving ended so
 abbrev pub HasEnded : {S E C L K A D : Type 0} → Senses S E C L K A D → Outset D → House S E C → Server L K A D → ServeEnd → Type 0
 HasEnded t o house server end =
-    ServesKept t.layers o.world o.past o.numbers house.replicas.items t.tells o.base (t.moment o.head o.before o.past server) end server.pace.until server.pace.limit
+    ServesKept t.layers o.world o.past o.numbers house.replicas.items t.tells o.base (t.moment o.head o.before o.past server) end server.pace.limits
     o.start
 
 -- this is done next, by the rules, where it stands so
 abbrev pub IsNextIn : {D : Type 0} → Outset D → Pace → Serving → Next → Type 0
-IsNextIn o pace s done = IsNext (wants_of o.world pace.until pace.limit (so_far o.past s) pace.taken s.peers) done
+IsNextIn o pace s done = IsNext (wants_of o.world pace.limits (so_far o.past s) pace.taken s.waiting s.peers) done
 
 -- ---- while a group is under way
 
 -- its group has so many rounds, and nothing of it was delivered yet
 abbrev pub HasGathered : {S E C L K A D : Type 0} → Senses S E C L K A D → Outset D → House S E C → Server L K A D → List LinkItem → ℕ → Type 0
 HasGathered t o house server left many =
-    Gathered t.layers o.world o.past o.numbers house server.group.now t.tells o.base (t.moment o.head o.before o.past server) server.pace.taken server.pace.until
-    server.pace.limit o.start left many
+    Gathered t.layers o.world o.past o.numbers house server.group.now t.tells o.base (t.moment o.head o.before o.past server) server.pace.taken
+    server.pace.limits o.start left many
 
 -- it is over, and can be delivered
 pub record IsGroupReady {S E C L K A D : Type 0} (t : Senses S E C L K A D) (o : Outset D) (house : House S E C) (server : Server L K A D) (left : List LinkItem) : Type 0 where
   pub many : ℕ
   pub within : many ≤ most_rounds
   pub run : HasGathered t o house server left many
-  pub over : IsGroupOver o.world o.past server.pace.until server.pace.limit (after_groups o.world o.past o.start run.older) run.newest
+  pub over : IsGroupOver o.world o.past server.pace.limits (after_groups o.world o.past o.start run.older) run.newest
 
 -- serving ended at a fault
 abbrev pub HasBroken : {S E C L K A D : Type 0} → Senses S E C L K A D → Outset D → House S E C → Server L K A D → Fault → Type 0

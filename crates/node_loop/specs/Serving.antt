@@ -14,9 +14,12 @@ use Rattle.outside.specs.declared.link.LinkItem.TheVariants.{End}
 use Rattle.outside.specs.Links.{LinkAct, Sends, Replies, bytes_of}
 use Rattle.world_model.specs.World.{Setting, states_of, states_before, call_of}
 use Rattle.world_model.specs.MadeOrder.{MadeFrame, frames_of_call}
-use Rattle.world_model.specs.Agree.{rows_at}
+use Rattle.world_model.specs.Agree.{rows_at, completed_at}
 use Rattle.node_loop.specs.Waiting.{Waiting, nobody}
-use Rattle.node_loop.specs.Calls.{Outcome, event_called, silent, item_does, first_does}
+use Rattle.node_loop.specs.declared.limits.Closing.{Closing}
+use Rattle.node_loop.specs.declared.limits.Limits.{Limits}
+use Rattle.node_loop.specs.Chains.{closing_asked, has_ended_at, has_place_at}
+use Rattle.node_loop.specs.Calls.{Outcome, event_called, epoch_closed, is_waited_for, silent, item_does, first_does}
 use Rattle.node_loop.specs.Peers.{Peers, no_peers, keep_all}
 use Rattle.node_loop.specs.Deeds.{act_of}
 use Rattle.node_loop.specs.Resending.{Brought, nothing_more, item_brings, asks_for_more, due}
@@ -67,13 +70,15 @@ with_outcome did more s = record s { waiting = did.waiting; peers = more.peers; 
 
 -- ---- the rules
 
--- what it does next: it takes up one of its first items, ends as done, ends as so many bytes are kept, takes a turn at a replica, ends at its
--- limit, asks a marked peer of a replica to send again, or asks the link
+-- what it does next: it takes up one of its first items, ends as its epoch is over, ends as done, ends as so many bytes are kept, takes a turn at a
+-- replica, closes the epoch of a number at a replica, ends at its limit, asks a marked peer of a replica to send again, or asks the link
 pub data Want : Type 0 where
   Begins : LinkItem → Want
+  Ends : Want
   Finishes : Want
   Overflows : ℕ → Want
   Turns : ℕ → Want
+  Closes : ℕ → ℕ → Want
   Halts : Want
   Reminds : ℕ → ℕ → Want
   Asks : Want
@@ -81,6 +86,14 @@ pub data Want : Type 0 where
 -- the replicas here
 abbrev pub here : Setting → List ℕ
 here w = filter w.is_correct (replicas w.numbers.n)
+
+-- the epoch is over here: there are replicas, and the log of each has ended
+abbrev pub have_ended : Setting → List Event → List ℕ → Bool
+have_ended w es [] = false
+have_ended w es (i ∷ is) = list_all (has_ended_at w es) (i ∷ is)
+
+abbrev pub is_epoch_over : Setting → List Event → Bool
+is_epoch_over w es = have_ended w es (here w)
 
 -- each log has so many rows, if that isn't 0
 abbrev pub has_enough_rows : Setting → ℕ → List Event → Bool
@@ -119,6 +132,30 @@ abbrev pub overflow_or : (ℕ → ℕ) → List ℕ → Want → Want
 overflow_or bytes [] other = other
 overflow_or bytes (i ∷ is) other = Overflows (bytes i)
 
+-- ---- who closes the epoch
+
+-- a replica may close its epoch of a chain: it completed so many rounds, its log hasn't ended, and a command has a place
+abbrev pub may_close : Setting → ℕ → List Event → ℕ → Bool
+may_close w rounds es i = w.start.chained && (nat_le rounds (completed_at w es i) && (not (has_ended_at w es i) && has_place_at w es i))
+
+-- it wishes to, unless the row of its closing command is waited for, as it is once it was given that
+abbrev pub wishes_to_close : Setting → Closing → List Event → Waiting → ℕ → Bool
+wishes_to_close w closing es ws i = may_close w closing.rounds es i && not (is_waited_for (ws (closing_asked i closing.epoch)))
+
+-- the replicas here that do, in order
+abbrev pub wishing : Setting → Closing → List Event → Waiting → List ℕ
+wishing w closing es ws = filter (wishes_to_close w closing es ws) (here w)
+
+-- the first of these closes the epoch of this number, or else this
+abbrev pub close_or : ℕ → List ℕ → Want → Want
+close_or epoch [] other = other
+close_or epoch (i ∷ is) other = Closes i epoch
+
+-- where it is to be closed here
+abbrev pub closing_or : Setting → Option Closing → List Event → Waiting → Want → Want
+closing_or w None es ws other = other
+closing_or w (Some closing) es ws other = close_or closing.epoch (wishing w closing es ws) other
+
 -- ---- what is wanted
 
 -- a turn at the first of these, or else this
@@ -131,26 +168,32 @@ abbrev pub remind_or : List Pair → Want
 remind_or [] = Asks
 remind_or (pair ∷ pairs) = Reminds pair.at pair.peer
 
-abbrev pub wants_of : Setting → ℕ → ℕ → List Event → ℕ → Peers → Want
-wants_of w until limit es taken p =
-    if has_enough_rows w until es then Finishes
-    else overflow_or (kept_bytes w p) (overfull w p) (turn_or (busy w es) (if nat_le limit taken then Halts else remind_or (due w es (here w) p)))
+-- ends at the limit, or asks
+abbrev pub halt_or : Setting → Limits → List Event → ℕ → Peers → Want
+halt_or w limits es taken p = if nat_le limits.items taken then Halts else remind_or (due w es (here w) p)
+
+abbrev pub wants_of : Setting → Limits → List Event → ℕ → Waiting → Peers → Want
+wants_of w limits es taken ws p =
+    if is_epoch_over w es then Ends
+    else if has_enough_rows w limits.rows es then Finishes
+    else overflow_or (kept_bytes w p) (overfull w p) (turn_or (busy w es) (closing_or w limits.closing es ws (halt_or w limits es taken p)))
 
 abbrev pub first_or : List LinkItem → Want → Want
 first_or [] other = other
 first_or (item ∷ left) other = Begins item
 
--- for so many rows in each log and so many items of the link
-abbrev pub wants : Setting → List Event → ℕ → ℕ → Serving → Want
-wants w past until limit s = first_or s.left (wants_of w until limit (so_far past s) s.taken s.peers)
+-- within these limits
+abbrev pub wants : Setting → List Event → Limits → Serving → Want
+wants w past limits s = first_or s.left (wants_of w limits (so_far past s) s.taken s.waiting s.peers)
 
 -- ---- rounds
 
--- one of the first items was taken up, a turn was taken at a replica, a peer of a replica was asked to send again, or an item of the link was
--- taken
+-- one of the first items was taken up, a turn was taken at a replica, a replica closed the epoch of a number, a peer of a replica was asked to send
+-- again, or an item of the link was taken
 pub data Round : Type 0 where
   Began : LinkItem → Round
   Turned : ℕ → Round
+  Closed : ℕ → ℕ → Round
   Reminded : ℕ → ℕ → Round
   Took : LinkItem → Round
 
@@ -170,12 +213,14 @@ took s = record s { taken = s.taken + 1 }
 abbrev pub at_call : Round → Serving → Serving
 at_call (Began item) s = began s
 at_call (Turned i) s = s
+at_call (Closed i epoch) s = s
 at_call (Reminded i j) s = s
 at_call (Took item) s = took s
 
 abbrev pub outcome : Setting → List Event → Round → Serving → Outcome
 outcome w past (Began item) s = first_does w (so_far past s) item s.waiting
 outcome w past (Turned i) s = event_called w (so_far past s) i (events.Turn i) s.waiting
+outcome w past (Closed i epoch) s = epoch_closed w (so_far past s) i epoch s.waiting
 outcome w past (Reminded i j) s = silent [] s.waiting
 outcome w past (Took item) s = item_does w (so_far past s) item s.waiting
 
@@ -183,6 +228,7 @@ outcome w past (Took item) s = item_does w (so_far past s) item s.waiting
 abbrev pub brings_peers : Setting → List Event → Round → Peers → Brought
 brings_peers w es (Began item) p = nothing_more p
 brings_peers w es (Turned i) p = nothing_more p
+brings_peers w es (Closed i epoch) p = nothing_more p
 brings_peers w es (Reminded i j) p = asks_for_more w.mode.version i j p
 brings_peers w es (Took item) p = item_brings w es item p
 
@@ -206,12 +252,13 @@ pub record IsGiven (item : LinkItem) : Type 0 where
 abbrev pub IsWanted : Want → Round → Type 0
 IsWanted (Begins item) (Began taken) = item ≡ taken
 IsWanted (Turns i) (Turned j) = i ≡ j
+IsWanted (Closes i a) (Closed j b) = (i ≡ j) × (a ≡ b)
 IsWanted (Reminds i j) (Reminded k l) = (i ≡ k) × (j ≡ l)
 IsWanted Asks (Took item) = IsGiven item
 IsWanted want round = ⊥
 
 -- each round was
-abbrev pub AreWantedFrom : Setting → List Event → ℕ → ℕ → Serving → List Round → Type 0
-AreWantedFrom w past until limit start [] = Unit {0}
-AreWantedFrom w past until limit start (x ∷ xs) =
-    IsWanted (wants w past until limit (after_from w past start xs)) x × AreWantedFrom w past until limit start xs
+abbrev pub AreWantedFrom : Setting → List Event → Limits → Serving → List Round → Type 0
+AreWantedFrom w past limits start [] = Unit {0}
+AreWantedFrom w past limits start (x ∷ xs) =
+    IsWanted (wants w past limits (after_from w past start xs)) x × AreWantedFrom w past limits start xs

@@ -6,9 +6,10 @@ use Rattle.outside.specs.Links.{LinkAct, Gives, GivesNow}
 use Rattle.outside.specs.declared.link.Sent.{Sent}
 use Rattle.world_model.specs.World.{Setting}
 use Rattle.world_model.specs.MadeOrder.{MadeFrame}
+use Rattle.node_loop.specs.declared.limits.Limits.{Limits}
 use Rattle.node_loop.specs.Deeds.{Deed, Came, Made, Replied, pushed, has_resent}
 use Rattle.node_loop.specs.Outs.{events_text}
-use Rattle.node_loop.specs.Serving.{Serving, so_far, sent_of, onto, frames_made_by, Turns, wants, Round, Began, Turned, Reminded, Took, at_call, outcome, brought, after_from, AreWantedFrom}
+use Rattle.node_loop.specs.Serving.{Serving, so_far, sent_of, onto, frames_made_by, Turns, wants, Round, Began, Turned, Closed, Reminded, Took, at_call, outcome, brought, after_from, AreWantedFrom}
 
 -- ---- the rounds of a group
 
@@ -56,6 +57,7 @@ enough_bytes = 65536
 abbrev pub MayJoin : Round → Type 0
 MayJoin (Began item) = ⊥
 MayJoin (Turned i) = Unit {0}
+MayJoin (Closed i epoch) = ⊥
 MayJoin (Reminded i j) = ⊥
 MayJoin (Took item) = Unit {0}
 
@@ -75,9 +77,9 @@ AreJoined w past start [] = Unit {0}
 AreJoined w past start (x ∷ group) = Joins w past start x group × AreJoined w past start group
 
 -- these rounds are a group: there is one, each is what the rules said, and each behind the first joins
-pub record IsGroup (w : Setting) (past : List Event) (until limit : ℕ) (start : Serving) (group : List Round) : Type 0 where
+pub record IsGroup (w : Setting) (past : List Event) (limits : Limits) (start : Serving) (group : List Round) : Type 0 where
   pub some : group ≡ [] → ⊥
-  pub wanted : AreWantedFrom w past until limit start group
+  pub wanted : AreWantedFrom w past limits start group
   pub joined : AreJoined w past start group
   pub most : length group ≤ most_rounds
 
@@ -94,8 +96,8 @@ IsFull w past start (x ∷ group) = (is_taken_up x ≡ true) ⊎ ((resends_by w 
     ⊎ ((most_rounds ≤ length (x ∷ group)) ⊎ (enough_bytes ≤ length (events_text (events_from w past start (x ∷ group))))))
 
 -- a group is over only where no turn is left for it
-abbrev pub IsGroupOver : Setting → List Event → ℕ → ℕ → Serving → List Round → Type 0
-IsGroupOver w past until limit start group = (i : ℕ) → wants w past until limit (after_from w past start group) ≡ Turns i → IsFull w past start group
+abbrev pub IsGroupOver : Setting → List Event → Limits → Serving → List Round → Type 0
+IsGroupOver w past limits start group = (i : ℕ) → wants w past limits (after_from w past start group) ≡ Turns i → IsFull w past start group
 
 -- ---- groups
 
@@ -105,15 +107,15 @@ after_groups w past start [] = start
 after_groups w past start (group ∷ older) = after_from w past (after_groups w past start older) group
 
 -- the newest of these is over
-abbrev pub IsNewestOver : Setting → List Event → ℕ → ℕ → Serving → List (List Round) → Type 0
-IsNewestOver w past until limit start [] = Unit {0}
-IsNewestOver w past until limit start (group ∷ older) = IsGroupOver w past until limit (after_groups w past start older) group
+abbrev pub IsNewestOver : Setting → List Event → Limits → Serving → List (List Round) → Type 0
+IsNewestOver w past limits start [] = Unit {0}
+IsNewestOver w past limits start (group ∷ older) = IsGroupOver w past limits (after_groups w past start older) group
 
 -- each is a group, and begins where the one before it is over
-abbrev pub AreGroups : Setting → List Event → ℕ → ℕ → Serving → List (List Round) → Type 0
-AreGroups w past until limit start [] = Unit {0}
-AreGroups w past until limit start (group ∷ older) = IsGroup w past until limit (after_groups w past start older) group
-    × IsNewestOver w past until limit start older × AreGroups w past until limit start older
+abbrev pub AreGroups : Setting → List Event → Limits → Serving → List (List Round) → Type 0
+AreGroups w past limits start [] = Unit {0}
+AreGroups w past limits start (group ∷ older) = IsGroup w past limits (after_groups w past start older) group
+    × IsNewestOver w past limits start older × AreGroups w past limits start older
 
 -- all calls of the link
 abbrev pub told_from : Setting → List Event → Serving → List (List Round) → List LinkAct

@@ -1,5 +1,5 @@
 -- Where memory may run out: what a call that hands on another's answer says of want of memory.
-use Rattle.std.specs.Prelude.{◌≡◌, ◌≢◌, ℕ, true, false, List, Option, Some, None}
+use Rattle.std.specs.Prelude.{◌≡◌, ◌≢◌, ℕ, Bool, true, false, List, Option, Some, None}
 use Rattle.std.specs.List.{list_any}
 use Rattle.ritas_base.specs.declared.event.Event.{Event}
 use Rattle.ritas_base.specs.declared.event.Event.TheVariants as events
@@ -13,21 +13,30 @@ use Rattle.world_model.specs.Agree.{rows_at}
 use Rattle.world_model.specs.declared.seen.Seen.{Seen}
 use Rattle.node_loop.specs.declared.waiting.Asked.{Asked}
 use Rattle.node_loop.specs.Calls.{asked_in, is_waited_for, refusal_in}
+use Rattle.node_loop.specs.Chains.{is_reserved, is_crowded}
 use Rattle.node_loop.specs.Waiting.{Waiting, is_conn}
 
 -- ---- a message of a client
 
--- A request whose row has a position wants memory only to reply to a connection. One for which
--- these wait wants it only where its connection doesn't wait yet. One that is submitted may want it
--- anyhow.
-abbrev pub AskedMayWant : Option ℕ → List (Option ℕ) → Option ℕ → Type 0
-AskedMayWant conn waits (Some position) = conn ≢ None
-AskedMayWant conn waits None = is_waited_for waits ≡ true → list_any (is_conn conn) waits ≡ false
+-- A request for which these wait wants memory only where its connection doesn't wait yet. One that
+-- is submitted may want it anyhow, and one that has no place in an epoch of a chain only to reply to a
+-- connection.
+abbrev pub OfferedMayWant : Option ℕ → List (Option ℕ) → Bool → Type 0
+OfferedMayWant conn waits false = is_waited_for waits ≡ true → list_any (is_conn conn) waits ≡ false
+OfferedMayWant conn waits true = (is_waited_for waits ≡ true → list_any (is_conn conn) waits ≡ false)
+    × (is_waited_for waits ≡ false → conn ≢ None)
+
+-- One whose row has a position wants it only to reply to a connection, and so does one of the closing
+-- client, of whom none is submitted in an epoch of a chain.
+abbrev pub AskedMayWant : Option ℕ → List (Option ℕ) → Bool → Bool → Option ℕ → Type 0
+AskedMayWant conn waits reserved crowded (Some position) = conn ≢ None
+AskedMayWant conn waits true crowded None = conn ≢ None
+AskedMayWant conn waits false crowded None = OfferedMayWant conn waits crowded
 
 -- of a request, in the log of a replica
 abbrev pub WaitMayWant : Setting → List Event → ℕ → Option ℕ → Waiting → Asked → Type 0
 WaitMayWant w es at conn ws a =
-    AskedMayWant conn (ws a) (position_of (rows_at w es at) a.client a.request)
+    AskedMayWant conn (ws a) (is_reserved w a.client) (is_crowded w es at) (position_of (rows_at w es at) a.client a.request)
 
 -- a message that is no query: what no request is, is submitted
 abbrev pub RequestMayWant : Setting → List Event → ℕ → Option ℕ → List ℕ → Waiting

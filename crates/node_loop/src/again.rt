@@ -10,6 +10,7 @@ use crate::archive::Archive;
 use crate::end::ServeEnd;
 use crate::group::Group;
 use crate::house::House;
+use crate::limits::Limits;
 use crate::output::Output;
 use crate::past::write_events;
 use crate::server::{Pace, Server};
@@ -64,8 +65,7 @@ pub fn serve_kept<
     disk: &mut D,
     link: &mut L,
     tape: &mut K,
-    limit: u64,
-    until: u32,
+    limits: Limits,
 ) -> ServeEnd
     requires live { journal.old.live ≡ true }
     requires own { AllByRecursion (IsRecord journal.old.me) recovered.now.items }
@@ -73,10 +73,10 @@ pub fn serve_kept<
         recovered.now.items
         (life replicas.old.items journal.old disk.old (outs_of K.Sink L.Link tape.old link.old))
         (life replicas.new.items journal.new disk.new (outs_of K.Sink L.Link tape.new link.new))
-        result until limit }
+        result limits }
 {
     serve_after(
-        rt, alloc, replicas, recovered, journal, disk, link, tape, limit, until,
+        rt, alloc, replicas, recovered, journal, disk, link, tape, limits,
     )
 }
 
@@ -99,8 +99,7 @@ pub fn serve_recovered<
     disk: &mut D,
     link: &mut L,
     tape: &mut K,
-    limit: u64,
-    until: u32,
+    limits: Limits,
 ) -> ServeEnd
     requires live { journal.old.live ≡ true }
     requires own { AllByRecursion (IsRecord journal.old.me) recovered.items }
@@ -108,10 +107,10 @@ pub fn serve_recovered<
         recovered.items
         (life replicas.old.items journal.old disk.old (outs_of K.Sink L.Link tape.old link.old))
         (life replicas.new.items journal.new disk.new (outs_of K.Sink L.Link tape.new link.new))
-        result until limit }
+        result limits }
 {
     serve_after(
-        rt, alloc, replicas, recovered, journal, disk, link, tape, limit, until,
+        rt, alloc, replicas, recovered, journal, disk, link, tape, limits,
     )
 }
 
@@ -134,8 +133,7 @@ fn serve_after<
     disk: &mut D,
     link: &mut L,
     tape: &mut K,
-    limit: u64,
-    until: u32,
+    limits: Limits,
 ) -> ServeEnd
     requires live { journal.old.live ≡ true }
     requires own { AllByRecursion (IsRecord journal.old.me) (P.items recovered) }
@@ -143,7 +141,7 @@ fn serve_after<
         (P.items recovered)
         (life replicas.old.items journal.old disk.old (outs_of K.Sink L.Link tape.old link.old))
         (life replicas.new.items journal.new disk.new (outs_of K.Sink L.Link tape.new link.new))
-        result until limit }
+        result limits }
 {
     let mut house = match House::new(alloc, replicas) {
         Ok(house) => house,
@@ -156,11 +154,7 @@ fn serve_after<
         tape,
         archive: journal,
         disk,
-        pace: Pace {
-            until,
-            limit,
-            taken: 0,
-        },
+        pace: Pace { limits, taken: 0 },
         group: &mut group,
     };
     let end = server.serve_again(rt, &mut house, recovered);
@@ -205,7 +199,7 @@ impl<L: Link, K: Sink, A: Archive<D>, D> Server<'_, '_, '_, '_, '_, L, K, A, D> 
             (P.items recovered)) numbers house.new.replicas.items t.tells
             (outs_of K.Sink L.Link self.old.tape.now self.old.link.now)
             (t.moment head before (reverse (P.items recovered)) self.new)
-            result self.new.pace.until self.new.pace.limit }
+            result self.new.pace.limits }
     {
         let mut output = Output::new(self.alloc);
         let events = recovered.as_slice();

@@ -1,6 +1,6 @@
 //! The messages of clients, and the items of a link.
 ghost use Rattle.std.specs.Prelude.{◌≡◌, ◌≢◌, ◌++◌, map, None, OnOk, OnErr, MatchOption};
-ghost use Rattle.client_port.specs.Messages.{request_in};
+ghost use Rattle.client_port.specs.Messages.{refusal_reply, request_in};
 ghost use Rattle.node_loop.specs.Calls.{asked_in, reply};
 ghost use Rattle.node_loop.specs.Standing.{bytes_said, reply_by};
 
@@ -21,6 +21,12 @@ use replica::Refusal;
 use ritas_base::{Bytes, Coin, Event, Mem};
 use ritas_core::Answer;
 use std::alloc::Global;
+
+// The fault of what is no input.
+const NO_INPUT: u32 = 8;
+
+// The fault of a request that has no place.
+const NO_PLACE: u32 = 7;
 
 /// The request that a message is at a replica; of one that is too short for a request's front the
 /// numbers are 0.
@@ -55,13 +61,13 @@ fn request_of(at: u8, bytes: &[u8]) -> Option<Asked>
     })
 }
 
-// A message of a client to a replica: the request that it is there, the connection by which it
-// came, if there is one, and its bytes.
+/// A message of a client to a replica: the request that it is there, the connection by which it
+/// came, if there is one, and its bytes.
 #[derive(Drop)]
-struct Message {
-    asked: Asked,
-    conn: Option<u32>,
-    bytes: Bytes,
+pub(crate) struct Message {
+    pub asked: Asked,
+    pub conn: Option<u32>,
+    pub bytes: Bytes,
 }
 
 // Replies so to a connection, if there is one.
@@ -77,6 +83,20 @@ fn reply(output: &mut Output, conn: Option<u32>, bytes: ReplyBytes) -> Result<()
         output.replies.push(Reply { conn, bytes })?;
     }
     Ok(())
+}
+
+// Replies to a connection, if there is one, that a request is refused for this fault.
+fn refuse(output: &mut Output, conn: Option<u32>, asked: Asked, code: u32) -> Result<(), Mem>
+    ensures replies { (at : _) → OnOk result (map (reply_by at) output.new.replies.items
+        ≡ map (reply_by at) output.old.replies.items
+        ++ reply at (refusal_reply asked.client asked.request code) conn) }
+    ensures memory { OnErr result (conn ≢ None) }
+    ensures same { (output.new.at ≡ output.old.at) × (output.new.event ≡ output.old.event)
+        × (output.new.frames ≡ output.old.frames)
+        × (output.new.more ≡ output.old.more) × (output.new.kept ≡ output.old.kept) }
+{
+    let bytes = write_refusal(asked.client, asked.request, code);
+    reply(output, conn, ReplyBytes::Short { bytes })
 }
 
 impl<S: Service, E: Broadcast, C: Coin + Drop> House<S, E, C> {
@@ -106,10 +126,10 @@ impl<S: Service, E: Broadcast, C: Coin + Drop> House<S, E, C> {
     ghost use Rattle.node_loop.specs.Standing.{HouseStands, ComesOut, IsEmptyOutput, is_answer_opened};
     ghost use Rattle.node_loop.specs.Wanting.{WaitMayWant, RequestMayWant, MessageMayWant, ItemMayWant};
 
-    // A message is an input of the replica at a place: what is refused is replied to, and what is
-    // taken waits for its row. The replica may want memory anyhow; that it wants none where memory
-    // is ample is tested (`each_is_replied` of `stack_tests`, `cases/floods`).
-    fn submit(
+    /// A message is an input of the replica at a place: what is refused is replied to, and what is
+    /// taken waits for its row. The replica may want memory anyhow; that it wants none where memory
+    /// is ample is tested (`each_is_replied` of `stack_tests`, `cases/floods`).
+    pub(crate) fn submit(
         &mut self,
         alloc: Global,
         place: usize,
@@ -194,8 +214,14 @@ impl<S: Service, E: Broadcast, C: Coin + Drop> House<S, E, C> {
             let bytes = write_reply(asked.client, asked.request, position);
             return reply(output, message.conn, ReplyBytes::Short { bytes });
         }
+        if self.is_reserved(place, asked.client) {
+            return refuse(output, message.conn, asked, NO_INPUT);
+        }
         if self.waiting.has(asked) {
             return self.waiting.push(alloc, asked, message.conn);
+        }
+        if self.is_crowded(place) {
+            return refuse(output, message.conn, asked, NO_PLACE);
         }
         self.submit(alloc, place, message, output)
     }

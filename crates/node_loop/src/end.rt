@@ -7,6 +7,8 @@ use ritas_base::Mem;
 /// How serving ended.
 #[derive(Clone, Copy, Debug, PartialEq, Eq)]
 pub enum ServeEnd {
+    /// The epoch of a chain that was served is over: the log of each replica here has its closing row.
+    Over,
     /// Each log has as many rows as were wanted.
     Done,
     /// As many items of the link were taken as were to be.

@@ -28,6 +28,7 @@ mod again;
 mod archive;
 mod asks;
 mod calls;
+mod closing;
 mod deliver;
 mod end;
 mod enter;
@@ -36,6 +37,7 @@ mod house;
 mod index;
 mod kept;
 mod laws;
+mod limits;
 mod output;
 mod past;
 mod peers;
@@ -53,4 +55,5 @@ pub use laws::{
     kept_stands, lives_print, one_run, only_grows, pieces_are_of_logs, recalled_are_sent,
     replies_are_true, resends_are_open,
 };
+pub use limits::{Closing, Limits};
 pub use rounds::serve;

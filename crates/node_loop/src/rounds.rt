@@ -11,6 +11,7 @@ use crate::deliver::gather;
 use crate::end::ServeEnd;
 use crate::group::Group;
 use crate::house::House;
+use crate::limits::Limits;
 use crate::peers::Pair;
 use crate::server::{Pace, Server};
 use layer_api::{Broadcast, Service};
@@ -24,9 +25,11 @@ use std::sync::Wait;
 /// What is done next.
 #[derive(Clone, Copy)]
 pub(crate) enum Next {
+    End,
     Finish,
     Overflow(u128),
     Turn(u8),
+    Close { at: u8, epoch: u32 },
     Halt,
     Remind(Pair),
     Ask,
@@ -35,16 +38,23 @@ pub(crate) enum Next {
 /// Serves these replicas: first the items of `first`, in order, which get no reply and don't count, and then those that the link
 /// gives. Again and again, the first of these that applies is done:
 ///
-/// 1. It ends with `Done` where `until` isn't 0 and every log has at least that many rows.
-/// 2. It ends with `KeptFull` where in version 3 more than 536,870,912 bytes of frames are kept for the peers of a replica, the least if there are
+/// 1. It ends with `Over` where the session is an epoch of a chain, and the log of each replica has ended: it has the row that closes the epoch.
+/// 2. It ends with `Done` where `limits.rows` isn't 0 and every log has at least that many rows.
+/// 3. It ends with `KeptFull` where in version 3 more than 536,870,912 bytes of frames are kept for the peers of a replica, the least if there are
 ///    several.
-/// 3. A turn is taken at the least replica whose inbox isn't empty, if there is one.
-/// 4. It ends with `Limit` where `limit` items of the link were taken.
-/// 5. The least peer, of the least replica that has one, which is to be asked to send again, is asked: an AGAIN goes to it.
-/// 6. The link's next item is taken; it ends with `End` where that is the link's end.
+/// 4. A turn is taken at the least replica whose inbox isn't empty, if there is one.
+/// 5. Where `limits.closing` says so, the least replica closes its epoch of a chain that wishes to. It is then given the closing request: that of
+///    the client 4,294,967,295, with the epoch's number and no payload. It wishes to once it completed as many rounds as are named there. It
+///    doesn't where its log has ended, nor where it has no place for a command. Nor does it where it was given the closing request in this call,
+///    or by a recovered event.
+/// 6. It ends with `Limit` where `limits.items` items of the link were taken.
+/// 7. The least peer, of the least replica that has one, which is to be asked to send again, is asked: an AGAIN goes to it.
+/// 8. The link's next item is taken; it ends with `End` where that is the link's end.
 ///
 /// A frame for a replica that is here is a call of its `on_frame`; a client's query is given a piece of the log at once, and any other message
-/// of a client is answered or submitted (`specs/Calls.antt`).
+/// of a client is answered or submitted (`specs/Calls.antt`). In an epoch of a chain a request of the client 4,294,967,295 is refused with 8, unless
+/// it has a row. Any other is refused with 7 where it would leave no place for the closing request. So a replica has at most 63 commands of clients
+/// in its window, and none numbered from 999,936 on.
 /// Each call is an event, which goes to the tape before the call's frames go to the link, and these go before its replies. What comes of
 /// several rounds is delivered as one group: all events of it go to the tape, by one call, and then, round after round, its frames and replies to the
 /// link. To a first round of any kind join turns, and the link's items that are there by then, for which it never waits: at most 256 rounds are a
@@ -76,8 +86,7 @@ pub fn serve<R: Net + Wait, S: Service, E: Broadcast, C: Coin + Drop, L: Link, K
     replicas: &mut Vec<Replica<S, E, C>>,
     link: &mut L,
     tape: &mut K,
-    limit: u64,
-    until: u32,
+    limits: Limits,
     first: &Vec<LinkItem>,
 ) -> ServeEnd
     requires first { All MayBegin first.now.items }
@@ -86,7 +95,7 @@ pub fn serve<R: Net + Wait, S: Service, E: Broadcast, C: Coin + Drop, L: Link, K
         → Serves m w past numbers replicas.new.items (tells_of K.Sink L.Link)
         (outs_of K.Sink L.Link tape.old link.old)
         (outs_of K.Sink L.Link tape.new link.new)
-        result until limit first.now.items }
+        result limits first.now.items }
 {
     let mut house = match House::new(alloc, replicas) {
         Ok(house) => house,
@@ -101,11 +110,7 @@ pub fn serve<R: Net + Wait, S: Service, E: Broadcast, C: Coin + Drop, L: Link, K
         tape,
         archive: &mut none,
         disk: &mut disk,
-        pace: Pace {
-            until,
-            limit,
-            taken: 0,
-        },
+        pace: Pace { limits, taken: 0 },
         group: &mut group,
     };
     let end = server.serve(rt, &mut house, first.as_slice());
@@ -124,24 +129,28 @@ impl<S: Service, E: Broadcast, C: Coin + Drop> House<S, E, C> {
     ghost use Rattle.node_loop.specs.Queries.{ItemFits};
     ghost use Rattle.node_loop.specs.Running.{IsNext};
     ghost use Rattle.node_loop.specs.Served.{MayBegin};
-    ghost use Rattle.node_loop.specs.Serving.{Serving, Round, Began, Turned, Reminded, Took, wants_of, so_far, after_from};
+    ghost use Rattle.node_loop.specs.Serving.{Serving, Round, Began, Turned, Closed, Reminded, Took, wants_of, so_far, after_from};
     ghost use Rattle.node_loop.specs.Standing.{HouseStands};
     ghost use Rattle.node_loop.specs.Waiting.{Waiting};
 
     /// What the rules say, at this pace.
     pub(crate) fn what_next(&self, pace: Pace) -> Next
-        ensures room { result ≡ Next.Ask → pace.taken < pace.limit }
+        ensures room { result ≡ Next.Ask → pace.taken < pace.limits.items }
         ensures next { let m = meaning_of S.Service E.Broadcast C.Coin in
             (w : Setting) (es : List Event) (numbers : List ℕ) (ws : Waiting) (p : Peers) → HouseStands m w es numbers self.now ws p
-            → IsNext (wants_of w pace.until pace.limit es pace.taken p) result }
+            → IsNext (wants_of w pace.limits es pace.taken ws p) result }
     {
-        if self.is_done(pace.until) {
+        if self.is_over() {
+            Next::End
+        } else if self.is_done(pace.limits.rows) {
             Next::Finish
         } else if let Some(bytes) = self.overflow() {
             Next::Overflow(bytes)
         } else if let Some(at) = self.least_busy() {
             Next::Turn(at)
-        } else if pace.taken >= pace.limit {
+        } else if let Some((at, epoch)) = self.due_to_close(pace.limits.closing) {
+            Next::Close { at, epoch }
+        } else if pace.taken >= pace.limits.items {
             Next::Halt
         } else if let Some(pair) = self.least_due() {
             Next::Remind(pair)
@@ -196,6 +205,25 @@ impl<S: Service, E: Broadcast, C: Coin + Drop> House<S, E, C> {
     {
         let mut output = group.output(alloc);
         self.turn(alloc, at, &mut output)?;
+        gather(self, group, output)
+    }
+
+    /// A replica closes its epoch, and that joins the group. The one error is want of memory.
+    pub(crate) fn join_closing(
+        &mut self,
+        alloc: Global,
+        at: u8,
+        epoch: u32,
+        group: &mut Group,
+    ) -> Result<(), Mem>
+        ensures joins { let m = meaning_of S.Service E.Broadcast C.Coin in
+            (w : Setting) (past : List Event) (numbers : List ℕ) (start : Serving) (newest : List Round)
+            → Under m w past numbers start newest self.old group.old → JoinsGroup newest (Closed at epoch) group.old
+            → w.is_correct at ≡ true
+            → OnOk result (Under m w past numbers start (Closed at epoch ∷ newest) self.new group.new) }
+    {
+        let mut output = group.output(alloc);
+        self.close(alloc, at, epoch, &mut output)?;
         gather(self, group, output)
     }
 

@@ -4,6 +4,7 @@ use crate::archive::Archive;
 use crate::end::{Fault, ServeEnd};
 use crate::group::Group;
 use crate::house::House;
+use crate::limits::Limits;
 use crate::rounds::Next;
 use layer_api::{Broadcast, Service};
 use outside::{Link, LinkItem, Sink};
@@ -15,11 +16,10 @@ use std::sync::Wait;
 // A group has at most so many rounds.
 const MOST_ROUNDS: u32 = 256;
 
-/// For how long it is served, to so many rows in each log, if that isn't 0, and to so many items of the link; and how many of these were taken.
+/// For how long it is served, and how many items of the link were taken.
 #[derive(Clone, Copy)]
 pub(crate) struct Pace {
-    pub until: u32,
-    pub limit: u64,
+    pub limits: Limits,
     pub taken: u64,
 }
 
@@ -135,10 +135,15 @@ impl<L: Link, K: Sink, A: Archive<D>, D> Server<'_, '_, '_, '_, '_, L, K, A, D> 
             (o : Outset D) → IsAtWork t o house.old self.old [] → HasFirst t o house.new self.new result }
     {
         match house.what_next(self.pace) {
+            Next::End => Err(ServeEnd::Over),
             Next::Finish => Err(ServeEnd::Done),
             Next::Overflow(bytes) => Err(ServeEnd::KeptFull(bytes)),
             Next::Turn(at) => {
                 house.join_turn(self.alloc, at, self.group)?;
+                Ok(())
+            }
+            Next::Close { at, epoch } => {
+                house.join_closing(self.alloc, at, epoch, self.group)?;
                 Ok(())
             }
             Next::Halt => Err(ServeEnd::Limit),
@@ -156,7 +161,7 @@ impl<L: Link, K: Sink, A: Archive<D>, D> Server<'_, '_, '_, '_, '_, L, K, A, D> 
         rt: &R,
         house: &mut House<S, E, C>,
     ) -> Result<(), ServeEnd>
-        requires room { self.old.pace.taken < self.old.pace.limit }
+        requires room { self.old.pace.taken < self.old.pace.limits.items }
         requires empty { IsEmpty self.old.group.now }
         ensures same { IsSameServer self.old self.new }
         ensures begins { let t = senses_of S.Service E.Broadcast C.Coin L.Link K.Sink A.Archive in
@@ -209,8 +214,10 @@ impl<L: Link, K: Sink, A: Archive<D>, D> Server<'_, '_, '_, '_, '_, L, K, A, D> 
                 Ok(true)
             }
             Next::Ask => self.take_more(house),
+            Next::End => Ok(false),
             Next::Finish => Ok(false),
             Next::Overflow(_) => Ok(false),
+            Next::Close { .. } => Ok(false),
             Next::Halt => Ok(false),
             Next::Remind(_) => Ok(false),
         }
@@ -221,7 +228,7 @@ impl<L: Link, K: Sink, A: Archive<D>, D> Server<'_, '_, '_, '_, '_, L, K, A, D> 
         &mut self,
         house: &mut House<S, E, C>,
     ) -> Result<bool, Fault>
-        requires room { self.old.pace.taken < self.old.pace.limit }
+        requires room { self.old.pace.taken < self.old.pace.limits.items }
         ensures same { IsSameServer self.old self.new }
         ensures gathers { let t = senses_of S.Service E.Broadcast C.Coin L.Link K.Sink A.Archive in
             (o : Outset D) (many : ℕ) (run : HasGathered t o house.old self.old [] many) → MayGrow self.old.group.now → many < most_rounds

@@ -13,7 +13,7 @@ use Rattle.schedule_file.specs.declared.header.Header.{Header}
 use Rattle.node_loop.specs.declared.end.ServeEnd.{ServeEnd}
 use Rattle.node_loop.specs.declared.end.ServeEnd.TheVariants as ends
 use Rattle.node_loop.specs.Outs.{Outs, Tells, Agrees, events_text}
-use Rattle.node_loop.specs.Serving.{Serving, Want, Begins, Finishes, Overflows, Turns, Halts, Reminds, Asks}
+use Rattle.node_loop.specs.Serving.{Serving, Want, Begins, Ends, Finishes, Overflows, Turns, Closes, Halts, Reminds, Asks}
 use Rattle.node_session.specs.Session.{TookAll, TookPart, last_acts, NotStarted, SessionEnds}
 use Rattle.node_session.specs.Opening.{HasBegun, HasFailed}
 
@@ -92,9 +92,11 @@ module _ (h : Header) (plan : LinkPlan) (tells : Tells) where
   -- where the link was to be asked, its end is one call more
   last_more : (rule : Want) (acts : List LinkAct) → (more : List LinkAct) × (last_acts rule acts ≡ more ++ acts)
   last_more (Begins item) acts = ([], refl)
+  last_more Ends acts = ([], refl)
   last_more Finishes acts = ([], refl)
   last_more (Overflows x) acts = ([], refl)
   last_more (Turns i) acts = ([], refl)
+  last_more (Closes i epoch) acts = ([], refl)
   last_more Halts acts = ([], refl)
   last_more (Reminds i j) acts = ([], refl)
   last_more Asks acts = (Gives items.End ∷ [], refl)

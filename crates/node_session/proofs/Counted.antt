@@ -27,6 +27,7 @@ stood few many end other same = none_failed few many (served_otherwise end other
 
 kept_counts : (me : ℕ) (head : List ℕ) (past : List Event) (outs : Outs) (d : DiskSeen) (far : Reach) (kept group older : List Event) (end : ServeEnd)
     → LifeKept (moment outs (DiskKeeps me head past d) (DiskBreaks me head past d)) far kept group older end → CountsIf d.few d.many (HasDiskFailed (Ok end))
+kept_counts me head past outs d far kept group older ends.Over held = stood _ _ _ (λ e. cc e) held.none_failed
 kept_counts me head past outs d far kept group older ends.Done held = stood _ _ _ (λ e. cc e) held.none_failed
 kept_counts me head past outs d far kept group older ends.Limit held = stood _ _ _ (λ e. cc e) held.none_failed
 kept_counts me head past outs d far kept group older ends.End held = stood _ _ _ (λ e. cc e) held.none_failed

@@ -15,7 +15,7 @@ use Rattle.node_loop.specs.declared.end.ServeEnd.{ServeEnd}
 use Rattle.node_loop.specs.declared.end.ServeEnd.TheVariants as ends
 use Rattle.node_loop.specs.Outs.{Outs, TapeFailed, LinkFailed, FellShort, Tells, Agrees, StopsPartway}
 use Rattle.node_loop.specs.Served.{Breaks, EndsSo, Whole}
-use Rattle.node_loop.specs.Serving.{Serving, Want, Finishes, Overflows, Halts, Asks}
+use Rattle.node_loop.specs.Serving.{Serving, Want, Ends, Finishes, Overflows, Halts, Asks}
 use Rattle.node_session.specs.declared.session.Session.{Session}
 use Rattle.node_session.specs.Session.{TookAll, TookPart, last_acts, CameTo, Broke, NotClosed, SessionEnds}
 use Rattle.node_session.specs.Opening.{HasBegun, Closes, Closed, Failed, is_reason}
@@ -73,6 +73,7 @@ module _ (x : Session) (w : Setting) (tells : Tells) where
       pub ended : (end result : ServeEnd) → EndsSo m w [] numbers here tells mid now end earlier s sooner news rule → last.told ≡ now.told → last.link_faults ≡ now.link_faults
           → (is_reason end ≡ true → Closes tells.tape now.taken last.taken now.tape_faults last.tape_faults end result)
           → (is_reason end ≡ false → (result ≡ end) × (last ≡ now)) → EndedAt result
+      ended ends.Over result so same link closed kept = closes Ends (news ++ sooner) ends.Over result so same link (closed refl) (λ took. took) refl
       ended ends.Done result so same link closed kept = closes Finishes (news ++ sooner) ends.Done result so same link (closed refl) (λ took. took) refl
       ended ends.Limit result so same link closed kept = closes Halts (news ++ sooner) ends.Limit result so same link (closed refl) (λ took. took) refl
       ended ends.End result so same link closed kept = closes Asks (Gives items.End ∷ (news ++ sooner)) ends.End result so same link (closed refl) (λ took. took) refl

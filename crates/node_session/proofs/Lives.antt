@@ -11,6 +11,7 @@ use Rattle.schedule_file.specs.Spelling.{IsHeading, header_text}
 use Rattle.schedule_file.specs.declared.header.Header.{Header}
 use Rattle.world_model.specs.EveryWorld.{IsWorld, AgreementLaw}
 use Rattle.world_model.specs.MadeOrder.{all_made}
+use Rattle.node_loop.specs.declared.limits.Limits.{Limits}
 use Rattle.node_loop.specs.Deeds.{firsts_in}
 use Rattle.node_loop.specs.Laws.{ActsAreDeeds, DeedsAreBehind, FramesAreMade, ResendsAreOpen, RecalledAreSent, RecalledAreOpen, AcksAreEarned, EventsFit, RepliesAreTrue, IsServed}
 use Rattle.node_loop.specs.PieceLaws.{HasSoundBase, PiecesAreOfLogs}
@@ -67,6 +68,7 @@ all_kept : (now : Moment) (far : Reach) (kept group older : List Event) (tells :
 all_kept now far kept group older tells old new before after end result reason stands (Closed is counts closed) = subst (LifeKept now far kept group older) (sym is) (here end reason)
   where
     here : (e : ServeEnd) → is_reason e ≡ true → LifeKept now far kept group older e
+    here ends.Over is = stands
     here ends.Done is = stands
     here ends.Limit is = stands
     here ends.End is = stands
@@ -141,6 +143,7 @@ module _ (x : Session) (w : Setting) (tells : Tells) {S E C : Type 0} (m : Meani
           → KeptAt (moment now stands fails) (reach tells mid now earlier s.events sooner) kept group older e
           → (is_reason e ≡ true → Closes tells.tape now.taken last.taken now.tape_faults last.tape_faults e result)
           → (is_reason e ≡ false → (result ≡ e) × (last ≡ now)) → at result
+      by_end ends.Over so held closed same = all_kept (moment last stands fails) _ kept group older _ _ _ _ _ ends.Over result refl held (closed refl)
       by_end ends.Done so held closed same = all_kept (moment last stands fails) _ kept group older _ _ _ _ _ ends.Done result refl held (closed refl)
       by_end ends.Limit so held closed same = all_kept (moment last stands fails) _ kept group older _ _ _ _ _ ends.Limit result refl held (closed refl)
       by_end ends.End so held closed same = all_kept (moment last stands fails) _ kept group older _ _ _ _ _ ends.End result refl held (closed refl)
@@ -172,19 +175,19 @@ module _ (x : Session) (w : Setting) (tells : Tells) {S E C : Type 0} (m : Meani
 -- what is true of a life that began with these events
 pub is_life : (h : Header) (w : Setting) → IsHeading (heading h) → (service : ServiceRules) (other : BroadcastRules) → IsWorld service other w → HasSoundBase w → w.numbers ≡ h.p
     → ((i : ℕ) → w.is_correct i ≡ true → has_member h.correct i ≡ true) → ActsAreDeeds → DeedsAreBehind → FramesAreMade → ResendsAreOpen → AcksAreEarned → EventsFit
-    → RepliesAreTrue service other → PiecesAreOfLogs service other → AgreementLaw service other → RecalledAreSent → RecalledAreOpen → (until limit me : ℕ) (events : List Event) → w.is_correct me ≡ true
-    → AllByRecursion (IsRecord me) events → (groups : List (List Round)) → AreGroups w (reverse events) until limit (recovered w (reverse events)) groups
+    → RepliesAreTrue service other → PiecesAreOfLogs service other → AgreementLaw service other → RecalledAreSent → RecalledAreOpen → (limits : Limits) (me : ℕ) (events : List Event) → w.is_correct me ≡ true
+    → AllByRecursion (IsRecord me) events → (groups : List (List Round)) → AreGroups w (reverse events) limits (recovered w (reverse events)) groups
     → QueriesFit w (reverse events) (recovered w (reverse events)) groups
     → IsTrueSession h w (so_far (reverse events) (after_groups w (reverse events) (recovered w (reverse events)) groups)) (recalled_deeds w (reverse events))
     (deeds_from w (reverse events) (recovered w (reverse events)) [] groups) (told_from w (reverse events) (recovered w (reverse events)) groups)
-is_life h w is service other kind base numbers correct done behind made kept earned fit replied pieces agreed sent again until limit me events right own groups are queries =
+is_life h w is service other kind base numbers correct done behind made kept earned fit replied pieces agreed sent again limits me events right own groups are queries =
     let past = reverse events in
     let made_first : all_made w past ≡ reverse (firsts_in (recalled_deeds w past)) = sym (ap reverse (again w past).1 ∙ reverse-reverse (all_made w past)) in
-    is_true h w is service other kind base numbers correct done behind made kept earned fit replied pieces agreed past until limit (recovered w past) (recalled_deeds w past) groups refl
+    is_true h w is service other kind base numbers correct done behind made kept earned fit replied pieces agreed past limits (recovered w past) (recalled_deeds w past) groups refl
     (All-from_recursion MayBegin [] tt) made_first (sent w past) (again w past).0 (all_back (IsServed w) events (record_served w me events right own)) are queries
 
 module _ (x : Session) (past : List Event) (w : Setting) (tells : Tells) (stands : List Event → Type 0) (fails : ArchiveFault → List Event → List Event → Type 0)
-    (session : (groups : List (List Round)) → AreGroups w past x.until x.limit (recovered w past) groups → QueriesFit w past (recovered w past) groups
+    (session : (groups : List (List Round)) → AreGroups w past x.limits (recovered w past) groups → QueriesFit w past (recovered w past) groups
     → IsTrueSession x.header w (so_far past (after_groups w past (recovered w past) groups)) (recalled_deeds w past)
     (deeds_from w past (recovered w past) [] groups) (told_from w past (recovered w past) groups)) where
   -- it ended before it was served
@@ -194,7 +197,7 @@ module _ (x : Session) (past : List Event) (w : Setting) (tells : Tells) (stands
     groups = [];
     are = tt;
     so = to_life x tells base now end [] _ [] [] _
-        (not_begun x.header x.plan tells base now [] (with_past past (recovered w past)) [] [] (wants w past x.until x.limit (recovered w past)) end failed);
+        (not_begun x.header x.plan tells base now [] (with_past past (recovered w past)) [] [] (wants w past x.limits (recovered w past)) end failed);
     kept = none_given (moment now stands fails) x tells base now end (so_far past (recovered w past)) [] failed held;
     true_of = session [] tt tt;
     tape_later = failed.tape_later;
@@ -203,7 +206,7 @@ module _ (x : Session) (past : List Event) (w : Setting) (tells : Tells) (stands
 
   pub lives : {S E C : Type 0} (m : Meaning S E C KeyRow) (numbers : List ℕ) (here : List (Replica S E C)) (base mid now last : Outs)
       → HasBegun (heading x.header) x.plan tells base mid → (end result : ServeEnd)
-      → ServesAgain m w past numbers here tells mid (moment now stands fails) end x.until x.limit → last.told ≡ now.told → last.link_faults ≡ now.link_faults
+      → ServesAgain m w past numbers here tells mid (moment now stands fails) end x.limits → last.told ≡ now.told → last.link_faults ≡ now.link_faults
       → (is_reason end ≡ true → Closes tells.tape now.taken last.taken now.tape_faults last.tape_faults end result)
       → (is_reason end ≡ false → (result ≡ end) × (last ≡ now)) → ServesLife x past w tells base (moment last stands fails) result
   lives m numbers here base mid now last begun end result run same same_count closed kept =
@@ -213,7 +216,7 @@ module _ (x : Session) (past : List Event) (w : Setting) (tells : Tells) (stands
       let s = with_past past later in
       let old = sooner w past start run.groups in
       let new = newest_calls w past start run.groups in
-      let rule = wants w past x.until x.limit later in
+      let rule = wants w past x.limits later in
       record {
         groups = run.groups;
         are = run.are;

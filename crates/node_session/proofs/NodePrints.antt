@@ -19,7 +19,7 @@ use Rattle.node_loop.specs.Laws.{all_frames_of}
 use Rattle.node_loop.specs.LivesPrint.{first_sendings, MakesFirsts, life_deeds}
 use Rattle.node_loop.specs.Outs.{Outs, Tells}
 use Rattle.node_loop.specs.Recovering.{recovered}
-use Rattle.node_loop.specs.Serving.{Serving, so_far, Want, Begins, Finishes, Overflows, Turns, Halts, Reminds, Asks, Round}
+use Rattle.node_loop.specs.Serving.{Serving, so_far, Want, Begins, Ends, Finishes, Overflows, Turns, Closes, Halts, Reminds, Asks, Round}
 use Rattle.node_loop.specs.Told.{AreGroups, after_groups}
 use Rattle.node_loop.proofs.Printing.{OneReading, kept_in, deeds_in, news_in, sooner_in, newest_in, earlier_in, newest_and_earlier, kept_make, all_print, older_print, either_print}
 use Rattle.schedule_replay.specs.Layers.{setting_of}
@@ -53,9 +53,11 @@ last_behind : (before now acts start : List LinkAct) (rule : Want) → TookBack 
     → TookBack before now ((Gives items.End ∷ acts) ++ start)
 last_behind before now acts start Asks took = took
 last_behind before now acts start (Begins item) took = back_more before now (acts ++ start) (Gives items.End ∷ []) took
+last_behind before now acts start Ends took = back_more before now (acts ++ start) (Gives items.End ∷ []) took
 last_behind before now acts start Finishes took = back_more before now (acts ++ start) (Gives items.End ∷ []) took
 last_behind before now acts start (Overflows x) took = back_more before now (acts ++ start) (Gives items.End ∷ []) took
 last_behind before now acts start (Turns i) took = back_more before now (acts ++ start) (Gives items.End ∷ []) took
+last_behind before now acts start (Closes i epoch) took = back_more before now (acts ++ start) (Gives items.End ∷ []) took
 last_behind before now acts start Halts took = back_more before now (acts ++ start) (Gives items.End ∷ []) took
 last_behind before now acts start (Reminds i j) took = back_more before now (acts ++ start) (Gives items.End ∷ []) took
 
@@ -67,7 +69,7 @@ module _ (x : Session) (w : Setting) (going : NoneStops w) (past : List Event) (
     (stands : (given : List Event) → now.stands given → es ≡ given ++ past)
     (fails : (fault : ArchiveFault) (group older : List Event) → now.fails fault group older
     → (es ≡ (group ++ older) ++ past) ⊎ (es ≡ older ++ past))
-    (groups : List (List Round)) (are : AreGroups w past x.until x.limit (recovered w past) groups) where
+    (groups : List (List Round)) (are : AreGroups w past x.limits (recovered w past) groups) where
   abbrev told : List LinkAct
   told = now.outs.told
 
@@ -95,14 +97,14 @@ module _ (x : Session) (w : Setting) (going : NoneStops w) (past : List Event) (
   -- before its start
   kept_makes : es ≡ kept ++ past → MakesFirsts w past es []
   kept_makes is =
-      let made = kept_make w going past x.until x.limit groups are in
+      let made = kept_make w going past x.limits groups are in
       (first_sendings (deeds_in w going past groups), ap (all_frames_of w) is ∙ made)
 
-  earlier_makes : (all : List (List Round)) → AreGroups w past x.until x.limit (recovered w past) all
+  earlier_makes : (all : List (List Round)) → AreGroups w past x.limits (recovered w past) all
       → es ≡ earlier_in w going past all ++ past → MakesFirsts w past es []
   earlier_makes [] all is = ([], ap (all_frames_of w) is ∙ sym (append-nil (all_frames_of w past)))
   earlier_makes (group ∷ older) all is =
-      let made = kept_make w going past x.until x.limit older all.2 in
+      let made = kept_make w going past x.limits older all.2 in
       (first_sendings (deeds_in w going past older), ap (all_frames_of w) is ∙ made)
 
   -- up to a point, all is kept
@@ -113,7 +115,7 @@ module _ (x : Session) (w : Setting) (going : NoneStops w) (past : List Event) (
       let behind = behind_first base.told told (Starts x.plan) all took.rest took.back took.parts took.told in
       elim behind [
         | inl none ↦ NotStarted none (kept, sym is) (kept_makes is)
-        | inr some ↦ Started (all_print w going past x.until x.limit es started told groups are is some)
+        | inr some ↦ Started (all_print w going past x.limits es started told groups are is some)
       ]
 
   part_left : now.stands kept → (tells.link ≡ true → TookBack base.told told (acts ++ Starts x.plan ∷ [])) → Prints
@@ -129,7 +131,7 @@ module _ (x : Session) (w : Setting) (going : NoneStops w) (past : List Event) (
 
   earlier_left : now.stands earlier → NothingNew → Prints
   earlier_left held (inl none) =
-      Started (older_print w going past x.until x.limit es started told groups are (stands earlier held) none)
+      Started (older_print w going past x.limits es started told groups are (stands earlier held) none)
   earlier_left held (inr none) =
       let is = stands earlier held in
       NotStarted none (earlier, sym is) (earlier_makes groups are is)
@@ -142,7 +144,7 @@ module _ (x : Session) (w : Setting) (going : NoneStops w) (past : List Event) (
   failed : (fault : ArchiveFault) → now.fails fault newest earlier → NothingNew → Prints
   failed fault held (inl none) =
       let opens = fails fault newest earlier held in
-      Started (either_print w going past x.until x.limit es started told groups are opens none)
+      Started (either_print w going past x.limits es started told groups are opens none)
   failed fault held (inr none) = elim (fails fault newest earlier held) [
     | inl with_it ↦
         let is = with_it ∙ ap (λ (l : List Event). l ++ past) (newest_and_earlier w going past groups) in
@@ -154,6 +156,7 @@ module _ (x : Session) (w : Setting) (going : NoneStops w) (past : List Event) (
       → LifeEnds x.header x.plan tells base now.outs end before s old_calls (news_in w going past groups) rule
       → LifeKept now (life_reach x.header x.plan tells base now.outs before written old_calls) kept newest earlier end
       → Prints
+  life_prints ends.Over before written s rule so held = whole_left held so.1.told
   life_prints ends.Done before written s rule so held = whole_left held so.1.told
   life_prints ends.Limit before written s rule so held = whole_left held so.1.told
   life_prints (ends.KeptFull bytes) before written s rule so held = whole_left held so.1.told

@@ -30,6 +30,7 @@ use Rattle.world_model.specs.World.{Setting}
 use Rattle.world_model.specs.MadeOrder.{all_made}
 use Rattle.world_model.specs.EveryWorld.{IsWorld, AgreementLaw}
 use Rattle.world_model.specs.RowsFit.{AreOfCommands}
+use Rattle.node_loop.specs.declared.limits.Limits.{Limits}
 use Rattle.node_loop.specs.declared.end.ServeEnd.{ServeEnd}
 use Rattle.node_loop.specs.Deeds.{Deed, firsts_in}
 use Rattle.node_loop.specs.Laws.{sent_as, ActsAreDeeds, DeedsAreBehind, FramesAreMade, AllSent, AreOpen, ResendsAreOpen, AcksAreEarned, RepliesAreTrue, EventsFit, IsServed}
@@ -130,17 +131,17 @@ module _ (h : Header) (w : Setting) (is : IsHeading (heading h)) (service : Serv
     (base : HasSoundBase w) (numbers : w.numbers ≡ h.p) (correct : (i : ℕ) → w.is_correct i ≡ true → has_member h.correct i ≡ true)
     (done : ActsAreDeeds) (behind : DeedsAreBehind) (made : FramesAreMade) (kept : ResendsAreOpen) (earned : AcksAreEarned) (fit : EventsFit) (replied : RepliesAreTrue service other) (pieces : PiecesAreOfLogs service other) (agreed : AgreementLaw service other) where
   -- of serving that began after the past events, whose frames went out earlier
-  pub is_true : (past : List Event) (until limit : ℕ) (start : Serving) (earlier : List Deed) (groups : List (List Round)) → start.events ≡ []
+  pub is_true : (past : List Event) (limits : Limits) (start : Serving) (earlier : List Deed) (groups : List (List Round)) → start.events ≡ []
       → All MayBegin start.left → all_made w past ≡ reverse (firsts_in earlier) → AllSent w start.peers earlier → AreOpen w earlier
-      → AllByRecursion (IsServed w) past → AreGroups w past until limit start groups → QueriesFit w past start groups
+      → AllByRecursion (IsServed w) past → AreGroups w past limits start groups → QueriesFit w past start groups
       → IsTrueSession h w (so_far past (after_groups w past start groups)) earlier (deeds_from w past start [] groups) (told_from w past start groups)
-  is_true past until limit start earlier groups no_events firsts first_made sent again served are queries =
+  is_true past limits start earlier groups no_events firsts first_made sent again served are queries =
       let s = after_groups w past start groups in
       let deeds = deeds_from w past start [] groups in
       let all_deeds : deeds_from w past start earlier groups ≡ deeds ++ earlier = behind w past start earlier groups in
       let within : (i : ℕ) → w.is_correct i ≡ true → i < h.p.n = λ i right. subst (λ (p : Numbers). i < p.n) numbers (kind.within i right) in
       let fits : AllByRecursion (IsServed w) s.events =
-      fit w past until limit start groups firsts (subst (λ (es : List Event). AllByRecursion (IsServed w) es) (sym no_events) tt) are in
+      fit w past limits start groups firsts (subst (λ (es : List Event). AllByRecursion (IsServed w) es) (sym no_events) tt) are in
       let all : AllByRecursion (IsServed w) (so_far past s) = append_all (IsServed w) s.events past fits served in
       let frames : all_made w (so_far past start) ≡ [] ++ reverse (firsts_in earlier) = ap (λ (es : List Event). all_made w (es ++ past)) no_events ∙ first_made in
       record {
@@ -152,40 +153,40 @@ module _ (h : Header) (w : Setting) (is : IsHeading (heading h)) (service : Serv
         };
         calls = done w past start groups;
         frames = ap (map sent_as) (made w past start [] earlier groups frames ∙ ap (λ (ds : List Deed). reverse (firsts_in ds)) all_deeds);
-        resends = subst (AreOpen w) all_deeds (kept w past until limit start earlier groups are sent again);
+        resends = subst (AreOpen w) all_deeds (kept w past limits start earlier groups are sent again);
         acknowledged = earned w past start [] groups tt;
         replies = replied w past start groups kind base.once;
         pieces = pieces w past start groups kind base queries;
         agree = λ holds. agreed w (so_far past s) kind holds;
       }
 
-  pub is_session : (until limit : ℕ) (first : List LinkItem) (groups : List (List Round)) → All MayBegin first → AreGroups w [] until limit (begin first) groups
+  pub is_session : (limits : Limits) (first : List LinkItem) (groups : List (List Round)) → All MayBegin first → AreGroups w [] limits (begin first) groups
       → QueriesFit w [] (begin first) groups
       → IsTrueSession h w (after_groups w [] (begin first) groups).events [] (deeds_from w [] (begin first) [] groups) (told_from w [] (begin first) groups)
   unfolding all_made
-  is_session until limit first groups firsts are queries =
+  is_session limits first groups firsts are queries =
       subst (λ (es : List Event). IsTrueSession h w es [] (deeds_from w [] (begin first) [] groups) (told_from w [] (begin first) groups))
       (append-nil (after_groups w [] (begin first) groups).events)
-      (is_true [] until limit (begin first) [] groups refl firsts refl (record { each = λ i j. tt }) tt tt are queries)
+      (is_true [] limits (begin first) [] groups refl firsts refl (record { each = λ i j. tt }) tt tt are queries)
 
 -- ---- the session as a whole
 
 module _ (x : Session) (first : List LinkItem) (w : Setting) (tells : Tells)
-    (session : (groups : List (List Round)) → AreGroups w [] x.until x.limit (begin first) groups → QueriesFit w [] (begin first) groups
+    (session : (groups : List (List Round)) → AreGroups w [] x.limits (begin first) groups → QueriesFit w [] (begin first) groups
     → IsTrueSession x.header w (after_groups w [] (begin first) groups).events [] (deeds_from w [] (begin first) [] groups) (told_from w [] (begin first) groups)) where
   -- it ended before it was served
   pub fails : (base now : Outs) (end : ServeEnd) → HasFailed (heading x.header) x.plan tells base now end → ServesSession x first w tells base now end
   fails base now end failed = record {
     groups = [];
     are = tt;
-    so = not_begun x.header x.plan tells base now [] (begin first) [] [] (wants w [] x.until x.limit (begin first)) end failed;
+    so = not_begun x.header x.plan tells base now [] (begin first) [] [] (wants w [] x.limits (begin first)) end failed;
     true_of = session [] tt tt;
     tape_later = failed.tape_later;
     link_later = failed.link_later;
   }
 
   module _ {S E C : Type 0} (m : Meaning S E C KeyRow) (numbers : List ℕ) (here : List (Replica S E C)) (base mid now last : Outs) (begun : HasBegun (heading x.header) x.plan tells base mid) where
-    pub serves : (end result : ServeEnd) → Serves m w [] numbers here tells mid now end x.until x.limit first → last.told ≡ now.told → last.link_faults ≡ now.link_faults
+    pub serves : (end result : ServeEnd) → Serves m w [] numbers here tells mid now end x.limits first → last.told ≡ now.told → last.link_faults ≡ now.link_faults
         → (is_reason end ≡ true → Closes tells.tape now.taken last.taken now.tape_faults last.tape_faults end result)
         → (is_reason end ≡ false → (result ≡ end) × (last ≡ now)) → ServesSession x first w tells base last result
     serves end result run same same_count closed kept =
@@ -193,7 +194,7 @@ module _ (x : Session) (first : List LinkItem) (w : Setting) (tells : Tells)
         let s = after_groups w [] (begin first) run.groups in
         let old = sooner w [] (begin first) run.groups in
         let new = newest_calls w [] (begin first) run.groups in
-        let rule = wants w [] x.until x.limit s in
+        let rule = wants w [] x.limits s in
         record {
           groups = run.groups;
           are = run.are;

@@ -1,5 +1,5 @@
 -- The sessions that configurations describe.
-use Rattle.std.specs.Prelude.{◌^◌, ◌-◌}
+use Rattle.std.specs.Prelude.{◌^◌, ◌-◌, None}
 use Rattle.outside.specs.declared.link.LinkItem.{LinkItem}
 use Rattle.outside.specs.declared.link.LinkItem.TheVariants as items
 use Rattle.outside.specs.declared.link.LinkPlan.{LinkPlan}
@@ -31,8 +31,7 @@ abbrev pub node_session : NodeConfig → Session
 node_session config = record {
   header = node_header config;
   plan = node_plan config;
-  limit = config.limit;
-  until = config.until;
+  limits = record { items = config.limit; rows = config.until; closing = None };
 }
 
 -- ---- all replicas
@@ -58,6 +57,5 @@ abbrev pub cluster_session : ClusterConfig → Session
 cluster_session config = record {
   header = cluster_header config;
   plan = cluster_plan config;
-  limit = config.limit;
-  until = config.until;
+  limits = record { items = config.limit; rows = config.until; closing = None };
 }

@@ -135,10 +135,10 @@ life_reach h plan tells base now earlier events sooner = record {
 -- took the past events too, in front of the others.
 pub record ServesLife (s : Session) (past : List Event) (w : Setting) (tells : Tells) (base : Outs) (now : Moment) (end : ServeEnd) : Type 0 where
   pub groups : List (List Round)
-  pub are : AreGroups w past s.until s.limit (recovered w past) groups
+  pub are : AreGroups w past s.limits (recovered w past) groups
   pub so : LifeEnds s.header s.plan tells base now.outs end (earlier_with w past groups) (with_past past (after_groups w past (recovered w past) groups))
       (sooner w past (recovered w past) groups) (newest_calls w past (recovered w past) groups)
-      (wants w past s.until s.limit (after_groups w past (recovered w past) groups))
+      (wants w past s.limits (after_groups w past (recovered w past) groups))
   pub kept : LifeKept now
       (life_reach s.header s.plan tells base now.outs (earlier_with w past groups) (so_far past (after_groups w past (recovered w past) groups)) (sooner w past (recovered w past) groups))
       (kept_of w past (after_groups w past (recovered w past) groups).events) (newest_kept w past (recovered w past) groups)

@@ -41,6 +41,7 @@ OpensSession h plan tells base now (Err end) = HasFailed h plan tells base now e
 
 -- serving ended by a rule of its own
 abbrev pub is_reason : ServeEnd → Bool
+is_reason ends.Over = true
 is_reason ends.Done = true
 is_reason ends.Limit = true
 is_reason ends.End = true

@@ -24,7 +24,7 @@ use Rattle.node_loop.specs.Laws.{sent_as, all_frames_of, AreOpen, AreEarned, IsT
 use Rattle.node_loop.specs.Outs.{Outs, NoneFailed, TapeFailed, LinkFailed, FellShort, Tells, Agrees}
 use Rattle.node_loop.specs.PieceLaws.{IsPieceRead}
 use Rattle.node_loop.specs.Served.{MayBegin, Breaks}
-use Rattle.node_loop.specs.Serving.{Serving, Want, Begins, Finishes, Overflows, Turns, Halts, Reminds, Asks, Round, begin, wants}
+use Rattle.node_loop.specs.Serving.{Serving, Want, Begins, Ends, Finishes, Overflows, Turns, Closes, Halts, Reminds, Asks, Round, begin, wants}
 use Rattle.node_loop.specs.Told.{AreGroups, after_groups, before_newest, told_from, newest_calls, sooner, deeds_from}
 use Rattle.node_session.specs.declared.session.Session.{Session}
 use Rattle.node_session.specs.Opening.{HasBegun, HasFailed}
@@ -53,9 +53,11 @@ pub record TookPart (h : Header) (plan : LinkPlan) (tells : Tells) (base now : O
 -- the calls at the end of serving: where the link was to be asked, it gave its end
 abbrev pub last_acts : Want → List LinkAct → List LinkAct
 last_acts (Begins item) acts = acts
+last_acts Ends acts = acts
 last_acts Finishes acts = acts
 last_acts (Overflows x) acts = acts
 last_acts (Turns i) acts = acts
+last_acts (Closes i epoch) acts = acts
 last_acts Halts acts = acts
 last_acts (Reminds i j) acts = acts
 last_acts Asks acts = Gives items.End ∷ acts
@@ -72,6 +74,7 @@ pub data CameTo (h : Header) (plan : LinkPlan) (tells : Tells) (base now : Outs)
 
 -- each end: the rule that applied, or the fault that came, which is that of the first call that failed or was without memory
 abbrev pub SessionEnds : Header → LinkPlan → Tells → Outs → Outs → ServeEnd → List Event → Serving → List LinkAct → List LinkAct → Want → Type 0
+SessionEnds h plan tells base now ends.Over earlier s sooner news rule = (rule ≡ Ends) × TookAll h plan tells base now s.events (news ++ sooner)
 SessionEnds h plan tells base now ends.Done earlier s sooner news rule = (rule ≡ Finishes) × TookAll h plan tells base now s.events (news ++ sooner)
 SessionEnds h plan tells base now ends.Limit earlier s sooner news rule = (rule ≡ Halts) × TookAll h plan tells base now s.events (news ++ sooner)
 SessionEnds h plan tells base now ends.End earlier s sooner news rule = (rule ≡ Asks) × TookAll h plan tells base now s.events (Gives items.End ∷ (news ++ sooner))
@@ -103,9 +106,9 @@ pub record IsTrueSession (h : Header) (w : Setting) (events : List Event) (earli
 -- There are groups of rounds, each round what the rules of serving say, after which the session ended so.
 pub record ServesSession (s : Session) (first : List LinkItem) (w : Setting) (tells : Tells) (base now : Outs) (end : ServeEnd) : Type 0 where
   pub groups : List (List Round)
-  pub are : AreGroups w [] s.until s.limit (begin first) groups
+  pub are : AreGroups w [] s.limits (begin first) groups
   pub so : SessionEnds s.header s.plan tells base now end (before_newest w [] (begin first) groups).events (after_groups w [] (begin first) groups)
-      (sooner w [] (begin first) groups) (newest_calls w [] (begin first) groups) (wants w [] s.until s.limit (after_groups w [] (begin first) groups))
+      (sooner w [] (begin first) groups) (newest_calls w [] (begin first) groups) (wants w [] s.limits (after_groups w [] (begin first) groups))
   pub true_of : IsTrueSession s.header w (after_groups w [] (begin first) groups).events [] (deeds_from w [] (begin first) [] groups) (told_from w [] (begin first) groups)
   pub tape_later : base.tape_faults ≤ now.tape_faults
   pub link_later : base.link_faults.failed ≤ now.link_faults.failed

@@ -11,7 +11,8 @@ fn is_reason(end: ServeEnd) -> bool
     ensures is { result ≡ is_reason end }
 {
     match end {
-        ServeEnd::Done | ServeEnd::Limit | ServeEnd::End | ServeEnd::KeptFull(_) => true,
+        ServeEnd::Over | ServeEnd::Done | ServeEnd::Limit | ServeEnd::End | ServeEnd::KeptFull(_) =>
+            true,
         ServeEnd::LinkFault
         | ServeEnd::TapeFault
         | ServeEnd::Mem

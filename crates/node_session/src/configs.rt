@@ -15,7 +15,7 @@ use crate::session::{Session, serve_session};
 use client_port::write_request;
 use cluster_config::{ClusterConfig, NodeConfig, Request, Requests};
 use event_journal::{JournalFault, journal_head, open_journal};
-use node_loop::ServeEnd;
+use node_loop::{Limits, ServeEnd};
 use outside::{Disk, Link, LinkItem, LinkPlan, Sink};
 use ritas_base::{Mem, SenderSet};
 use schedule_file::{Header, HeaderKeys};
@@ -100,8 +100,11 @@ fn session_of(config: NodeConfig) -> Session
             peers: config.peers,
             client: config.client,
         },
-        limit: config.limit,
-        until: config.until,
+        limits: Limits {
+            items: config.limit,
+            rows: config.until,
+            closing: None,
+        },
     }
 }
 
@@ -190,8 +193,11 @@ pub fn serve_cluster<R: Net + Wait, L: Link, K: Sink>(
         plan: LinkPlan::Cluster {
             peers: config.peers,
         },
-        limit: config.limit,
-        until: config.until,
+        limits: Limits {
+            items: config.limit,
+            rows: config.until,
+            closing: None,
+        },
     };
     serve_session(rt, alloc, &session, &first, link, output)
 }

@@ -99,8 +99,7 @@ fn live_as<R: Net + Wait, S: Service, E: Broadcast, L: Link, K: Sink, D: Disk>(
         disk,
         link,
         output,
-        life.session.limit,
-        life.session.until,
+        life.session.limits,
     );
     Ok(close(output, end))
 }

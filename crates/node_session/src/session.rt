@@ -20,8 +20,8 @@ use keyed_channel::SeedCoin;
 use layer_api::{Broadcast, Service};
 use multivalued::Mvc;
 use node_loop::{
-    ServeEnd, acks_are_earned, acts_are_deeds, events_fit, frames_are_made, pieces_are_of_logs,
-    replies_are_true, resends_are_open, serve,
+    Limits, ServeEnd, acks_are_earned, acts_are_deeds, events_fit, frames_are_made,
+    pieces_are_of_logs, replies_are_true, resends_are_open, serve,
 };
 use outside::{Link, LinkItem, LinkPlan, Sink};
 use reliable_bcast::{DigestRb, Rb};
@@ -42,10 +42,8 @@ pub struct Session {
     pub header: Header,
     /// What the link is started with.
     pub plan: LinkPlan,
-    /// It ends once so many items of the link were taken.
-    pub limit: u64,
-    /// It ends once each log has so many rows, where this isn't 0.
-    pub until: u32,
+    /// For how long it is served.
+    pub limits: Limits,
 }
 
 /// The correct replicas of a header, in order, before any event. The one error is want of memory.
@@ -100,8 +98,7 @@ fn serve_as<R: Net + Wait, S: Service, E: Broadcast, L: Link, K: Sink>(
         &mut replicas,
         link,
         output,
-        session.limit,
-        session.until,
+        session.limits,
         first,
     );
     Ok(close(output, end))

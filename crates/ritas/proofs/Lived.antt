@@ -35,6 +35,7 @@ use Rattle.ritas.proofs.Served.{low, no_four, no_two, tape_counts, link_counts, 
 life_tape : (h : Header) (plan : LinkPlan) (tells : Tells) (base now : Outs) (end : ServeEnd) (earlier : List Event) (s : Serving) (sooner news : List LinkAct) (rule : Want)
     → LifeEnds h plan tells base now end earlier s sooner news rule
     → CountsIf base.tape_faults now.tape_faults (end_status end ≡ 5)
+life_tape h plan tells base now ends.Over earlier s sooner news rule so = tape_counts h plan tells base now ends.Over earlier s sooner news rule so
 life_tape h plan tells base now ends.Done earlier s sooner news rule so = tape_counts h plan tells base now ends.Done earlier s sooner news rule so
 life_tape h plan tells base now ends.Limit earlier s sooner news rule so = tape_counts h plan tells base now ends.Limit earlier s sooner news rule so
 life_tape h plan tells base now ends.End earlier s sooner news rule so = tape_counts h plan tells base now ends.End earlier s sooner news rule so
@@ -48,6 +49,7 @@ life_tape h plan tells base now (ends.JournalFull x) earlier s sooner news rule 
 life_link : (h : Header) (plan : LinkPlan) (tells : Tells) (base now : Outs) (end : ServeEnd) (earlier : List Event) (s : Serving) (sooner news : List LinkAct) (rule : Want)
     → LifeEnds h plan tells base now end earlier s sooner news rule
     → LinkCounts base.link_faults now.link_faults (end_status end)
+life_link h plan tells base now ends.Over earlier s sooner news rule so = link_counts h plan tells base now ends.Over earlier s sooner news rule so
 life_link h plan tells base now ends.Done earlier s sooner news rule so = link_counts h plan tells base now ends.Done earlier s sooner news rule so
 life_link h plan tells base now ends.Limit earlier s sooner news rule so = link_counts h plan tells base now ends.Limit earlier s sooner news rule so
 life_link h plan tells base now ends.End earlier s sooner news rule so = link_counts h plan tells base now ends.End earlier s sooner news rule so
@@ -78,6 +80,7 @@ node_runs faults old new config tells base now d end before later serves =
 -- ---- the counts of the disk
 
 nine_is : (end : ServeEnd) → end_status end ≡ 9 → end ≡ ends.DiskFault
+nine_is ends.Over e = absurd (omega (arith, e))
 nine_is ends.Done e = absurd (omega (arith, e))
 nine_is ends.Limit e = absurd (omega (arith, e))
 nine_is ends.End e = absurd (omega (arith, e))
@@ -111,6 +114,7 @@ refused_count few many status fault nine counts = record {
     by (inr is) = nine.1 (cc is)
 
 pub no_disk : (session : Session) (first : List LinkItem) (w : Setting) (tells : Tells) (base now : Outs) (end : ServeEnd) → ServesSession session first w tells base now end → end_status end ≢ 9
+no_disk session first w tells base now ends.Over serves e = omega (arith, e)
 no_disk session first w tells base now ends.Done serves e = omega (arith, e)
 no_disk session first w tells base now ends.Limit serves e = omega (arith, e)
 no_disk session first w tells base now ends.End serves e = omega (arith, e)
@@ -192,6 +196,20 @@ module _ {K : Type 0} (config : NodeConfig) (tells : Tells) (taken : K → List 
       by_end : (e : ServeEnd) → end_status e ≡ 0
           → ServesLife (node_session config) past w tells base (moment now (DiskKeeps config.me (head_in config) past d) (DiskBreaks config.me (head_in config) past d)) e
           → HasLived config tells base now d
+      by_end ends.Over e life = record {
+        past = past;
+        later = (after_groups w past start life.groups).events;
+        opened = serves.opened;
+        served = record {
+          events = so_far past (after_groups w past start life.groups);
+          deeds = deeds_from w past start [] life.groups;
+          acts = told_from w past start life.groups;
+          took = took_told (node_session config) tells base now _ [] w past start life.groups life.so.1;
+          true_of = life.true_of;
+        };
+        all = refl;
+        kept = life.kept;
+      }
       by_end ends.Done e life = record {
         past = past;
         later = (after_groups w past start life.groups).events;

@@ -23,6 +23,7 @@ use Rattle.ritas.specs.Statuses.{end_status}
 use Rattle.ritas.proofs.Counts.{none_failed, one_failed, link_stood, link_failed, link_short}
 
 pub no_four : (end : ServeEnd) → end_status end ≢ 4
+no_four ends.Over e = omega (arith, e)
 no_four ends.Done e = omega (arith, e)
 no_four ends.Limit e = omega (arith, e)
 no_four ends.End e = omega (arith, e)
@@ -34,6 +35,7 @@ no_four ends.DiskFault e = omega (arith, e)
 no_four (ends.JournalFull x) e = omega (arith, e)
 
 pub no_two : (end : ServeEnd) → end_status end ≢ 2
+no_two ends.Over e = omega (arith, e)
 no_two ends.Done e = omega (arith, e)
 no_two ends.Limit e = omega (arith, e)
 no_two ends.End e = omega (arith, e)
@@ -45,6 +47,7 @@ no_two ends.DiskFault e = omega (arith, e)
 no_two (ends.JournalFull x) e = omega (arith, e)
 
 pub low : (end : ServeEnd) → end_status end ≤ 9
+low ends.Over = omega arith
 low ends.Done = omega arith
 low ends.Limit = omega arith
 low ends.End = omega arith
@@ -58,6 +61,7 @@ low (ends.JournalFull x) = omega arith
 pub tape_counts : (h : Header) (plan : LinkPlan) (tells : Tells) (base now : Outs) (end : ServeEnd) (earlier : List Event) (s : Serving) (sooner news : List LinkAct) (rule : Want)
     → SessionEnds h plan tells base now end earlier s sooner news rule
     → CountsIf base.tape_faults now.tape_faults (end_status end ≡ 5)
+tape_counts h plan tells base now ends.Over earlier s sooner news rule so = none_failed _ _ (λ e. omega (arith, e)) so.1.none_failed.0
 tape_counts h plan tells base now ends.Done earlier s sooner news rule so = none_failed _ _ (λ e. omega (arith, e)) so.1.none_failed.0
 tape_counts h plan tells base now ends.Limit earlier s sooner news rule so = none_failed _ _ (λ e. omega (arith, e)) so.1.none_failed.0
 tape_counts h plan tells base now ends.End earlier s sooner news rule so = none_failed _ _ (λ e. omega (arith, e)) so.1.none_failed.0
@@ -71,6 +75,7 @@ tape_counts h plan tells base now (ends.JournalFull x) earlier s sooner news rul
 pub link_counts : (h : Header) (plan : LinkPlan) (tells : Tells) (base now : Outs) (end : ServeEnd) (earlier : List Event) (s : Serving) (sooner news : List LinkAct) (rule : Want)
     → SessionEnds h plan tells base now end earlier s sooner news rule
     → LinkCounts base.link_faults now.link_faults (end_status end)
+link_counts h plan tells base now ends.Over earlier s sooner news rule so = link_stood _ _ 0 (λ e. omega (arith, e)) so.1.none_failed.1
 link_counts h plan tells base now ends.Done earlier s sooner news rule so = link_stood _ _ 0 (λ e. omega (arith, e)) so.1.none_failed.1
 link_counts h plan tells base now ends.Limit earlier s sooner news rule so = link_stood _ _ 0 (λ e. omega (arith, e)) so.1.none_failed.1
 link_counts h plan tells base now ends.End earlier s sooner news rule so = link_stood _ _ 0 (λ e. omega (arith, e)) so.1.none_failed.1
@@ -138,6 +143,13 @@ has_served session first tells base now untouched status (Served end is serves) 
     start = begin first
 
     by_end : (x : ServeEnd) → end_status x ≡ 0 → ServesSession session first w tells base now x → HasServed session [] tells base now
+    by_end ends.Over e run = record {
+      events = (after_groups w [] start run.groups).events;
+      deeds = deeds_from w [] start [] run.groups;
+      acts = told_from w [] start run.groups;
+      took = took_told session tells base now _ [] w [] start run.groups run.so.1;
+      true_of = run.true_of;
+    }
     by_end ends.Done e run = record {
       events = (after_groups w [] start run.groups).events;
       deeds = deeds_from w [] start [] run.groups;

@@ -80,6 +80,7 @@ line_text line = codes "input line " ++ (decimal line ++ end_of_line)
 
 -- the status of serving that ended so
 abbrev pub end_status : ServeEnd → ℕ
+end_status serve_ends.Over = 0
 end_status serve_ends.Done = 0
 end_status serve_ends.Limit = 0
 end_status serve_ends.End = 0

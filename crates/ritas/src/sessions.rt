@@ -26,7 +26,7 @@ fn end_status(end: ServeEnd) -> u8
     ensures status { result ≡ end_status end }
 {
     match end {
-        ServeEnd::Done | ServeEnd::Limit | ServeEnd::End => 0,
+        ServeEnd::Over | ServeEnd::Done | ServeEnd::Limit | ServeEnd::End => 0,
         ServeEnd::LinkFault => 6,
         ServeEnd::TapeFault => 5,
         ServeEnd::Mem => 8,

@@ -8,7 +8,7 @@ use atomic_bcast::Abc;
 use binary_consensus::Bin;
 use keyed_channel::{Keys, SeedCoin};
 use multivalued::Mvc;
-use node_loop::{ServeEnd, serve};
+use node_loop::{Limits, ServeEnd, serve};
 use outside::{LinkItem, MemLink, MemSink};
 use reliable_bcast::Rb;
 use replica::Replica;
@@ -88,14 +88,19 @@ fn serve_alone<R: Net + Wait + Abort>(
     alloc: Global,
     link: &mut MemLink,
     tape: &mut MemSink,
-    limit: u64,
-    until: u32,
+    items: u64,
+    rows: u32,
     first: &Vec<LinkItem>,
 ) -> Result<ServeEnd, Mem>
     requires { All MayBegin first.now.items }
 {
     let mut replicas = alone(rt, alloc)?;
-    Ok(serve(rt, alloc, &mut replicas, link, tape, limit, until, first))
+    let limits = Limits {
+        items,
+        rows,
+        closing: None,
+    };
+    Ok(serve(rt, alloc, &mut replicas, link, tape, limits, first))
 }
 
 // A link that gives these items, and whose calls of these numbers fail.

@@ -14,7 +14,7 @@ pub returns-in-Err : goal.returns-in-Err
 returns-in-Err g c = record {
   serves = λ head w numbers are_here right stands.
       let es = g.P.AsSlice.items c.args.recovered in
-      again_short _ w (reverse es) numbers _ _ _ _ _
+      again_short _ w (reverse es) numbers _ _ _ _
       (refl, kept_past head (reverse es) c.args.journal.now g.D.Disk.tells (g.D.Disk.told c.args.disk.now) (g.D.Disk.faults c.args.disk.now) stands);
 }
 
@@ -30,8 +30,8 @@ returns g c = record {
       let begins : JournalStands head (reverse es) [] c.args.journal.now g.D.Disk.tells (g.D.Disk.told c.args.disk.now) (g.D.Disk.told c.args.disk.now) (g.D.Disk.faults c.args.disk.now) (g.D.Disk.faults c.args.disk.now) =
       kept_past head (reverse es) c.args.journal.now g.D.Disk.tells (g.D.Disk.told c.args.disk.now) (g.D.Disk.faults c.args.disk.now) stands in
       all_at_last (λ (tape : _) (link : _) (journal : _) (disk : _). ServesAgain (meaning_of g.S.Service g.E.Broadcast g.C.Coin) w (reverse es) numbers c.serve_again-end.new.house.replicas.items tells base
-      (journal_moment g.D.Disk head (reverse es) me c.args.disk.now (outs_of g.K.Sink g.L.Link tape link) journal disk) c.serve_again-end.result c.args.until c.args.limit)
+      (journal_moment g.D.Disk head (reverse es) me c.args.disk.now (outs_of g.K.Sink g.L.Link tape link) journal disk) c.serve_again-end.result c.args.limits)
       _ now.tape.now _ now.link.now _ now.archive.now _ now.disk.now (search rules) (search rules) (search rules) (search rules)
-      (served_again_for _ w (reverse es) numbers _ tells base _ _ c.args.until c.args.limit _ _ same.until same.limit
+      (served_again_for _ w (reverse es) numbers _ tells base _ _ c.args.limits _ same.limits
       (c.serve_again-end.ensures.serves (me ∷ head) c.args.disk.now w numbers (c.in-Ok.ensures.stands w [] numbers are_here) (record_served w me es right c.requires.own) (refl, begins) refl));
 }

@@ -18,7 +18,7 @@ returns-in-Err-clause-served g c = λ head stands.
     life_fails session (reverse events) w _ _ _
     (λ groups are queries. is_life h w c.requires.servable.heading service other kind (sound_base w refl) refl (λ i right. right) c.acts_are_deeds.ensures.deeds c.acts_are_deeds.ensures.behind c.frames_are_made.ensures.made
     c.resends_are_open.ensures.unacknowledged c.acks_are_earned.ensures.earned c.events_fit.ensures.fit c.replies_are_true.ensures.replies c.pieces_are_of_logs.ensures.pieces c.agreement.ensures
-    c.recalled_are_sent.ensures.sent c.recalled_are_sent.ensures.again session.until session.limit c.args.life.now.journal.me events c.requires.member c.requires.own groups are queries)
+    c.recalled_are_sent.ensures.sent c.recalled_are_sent.ensures.again session.limits c.args.life.now.journal.me events c.requires.member c.requires.own groups are queries)
     _ _ c.in-Err.end c.in-Err.ensures.opens (refl, kept_past head (reverse events) c.args.life.now.journal g.D.Disk.tells (g.D.Disk.told c.args.disk.now) (g.D.Disk.faults c.args.disk.now) stands)
 
 pub returns-clause-served : goal.returns-clause-served
@@ -34,7 +34,7 @@ returns-clause-served g c = λ head stands.
     lives session (reverse events) w _ _ _
     (λ groups are queries. is_life h w c.requires.servable.heading service other here.kind (sound_base w refl) refl (λ i right. right) c.acts_are_deeds.ensures.deeds c.acts_are_deeds.ensures.behind c.frames_are_made.ensures.made
     c.resends_are_open.ensures.unacknowledged c.acks_are_earned.ensures.earned c.events_fit.ensures.fit c.replies_are_true.ensures.replies c.pieces_are_of_logs.ensures.pieces c.agreement.ensures
-    c.recalled_are_sent.ensures.sent c.recalled_are_sent.ensures.again session.until session.limit c.args.life.now.journal.me events c.requires.member c.requires.own groups are queries)
+    c.recalled_are_sent.ensures.sent c.recalled_are_sent.ensures.again session.limits c.args.life.now.journal.me events c.requires.member c.requires.own groups are queries)
     _ (members w) c.serve_recovered-end.new.replicas.items _ _ _ _ c.in-Ok.ensures.opens c.serve_recovered-end.result c.close.result run refl
     refl c.close.ensures.reason
     (λ fault.

@@ -14,7 +14,7 @@ returns-in-Err-clause-served g c =
     let kind = is_world service other h c.requires.servable.heading c.requires.serves (g.met.E.Broadcast.form ∙ c.requires.form) in
     fails session c.args.first.now.items w _
     (λ groups are queries. is_session h w c.requires.servable.heading service other kind (sound_base w refl) refl (λ i right. right) c.acts_are_deeds.ensures.deeds c.acts_are_deeds.ensures.behind c.frames_are_made.ensures.made c.resends_are_open.ensures.unacknowledged c.acks_are_earned.ensures.earned c.events_fit.ensures.fit c.replies_are_true.ensures.replies c.pieces_are_of_logs.ensures.pieces c.agreement.ensures
-    session.until session.limit c.args.first.now.items groups c.requires.servable.firsts are queries)
+    session.limits c.args.first.now.items groups c.requires.servable.firsts are queries)
     _ _ c.in-Err.end c.in-Err.ensures.opens
 
 pub returns-clause-served : goal.returns-clause-served
@@ -28,7 +28,7 @@ returns-clause-served g c =
     let run = c.serve-end.ensures.serves w [] (members w) here in
     serves session c.args.first.now.items w _
     (λ groups are queries. is_session h w c.requires.servable.heading service other here.kind (sound_base w refl) refl (λ i right. right) c.acts_are_deeds.ensures.deeds c.acts_are_deeds.ensures.behind c.frames_are_made.ensures.made c.resends_are_open.ensures.unacknowledged c.acks_are_earned.ensures.earned c.events_fit.ensures.fit c.replies_are_true.ensures.replies c.pieces_are_of_logs.ensures.pieces c.agreement.ensures
-    session.until session.limit c.args.first.now.items groups c.requires.servable.firsts are queries)
+    session.limits c.args.first.now.items groups c.requires.servable.firsts are queries)
     _ (members w) c.serve-end.new.replicas.items _ _ _ _ c.in-Ok.ensures.opens c.serve-end.result c.close.result run refl
     refl c.close.ensures.reason
     (λ fault.

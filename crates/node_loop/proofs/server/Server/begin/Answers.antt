@@ -23,9 +23,9 @@ returns-in_err-join_first-clause-begins g c = λ o start.
     let i = c.loop-item.item-index in
     let item = c.item-item.result in
     let fault = err_from_is_err_and c.from_residual.result c.from_residual.ensures.1 in
-    let want = first_wanted _ o.world o.past o.numbers _ o.base _ _ o.start _ _ _ (drop i xs) run item (drop (i + 1) xs) (next_first xs i item c.loop-item-test.true c.item-item.is) in
+    let want = first_wanted _ o.world o.past o.numbers _ o.base _ o.start _ _ _ (drop i xs) run item (drop (i + 1) xs) (next_first xs i item c.loop-item-test.true c.item-item.is) in
     rw (fault.1 ∙ ap (λ (x : Fault). Err x) fault.2)
-    (λ end is. rw is (first_short _ o.world o.past o.numbers _ o.base _ _ o.start _ _ _ (drop i xs) run _ _ (Began item) want tt run.agrees run.kept))
+    (λ end is. rw is (first_short _ o.world o.past o.numbers _ o.base _ o.start _ _ _ (drop i xs) run _ _ (Began item) want tt run.agrees run.kept))
 
 pub returns-in_err-deliver-clause-begins : goal.returns-in_err-deliver-clause-begins
 returns-in_err-deliver-clause-begins g c = λ o start.
@@ -33,9 +33,9 @@ returns-in_err-deliver-clause-begins g c = λ o start.
     let i = c.loop-item.item-index in
     let item = c.item-item.result in
     let run = c.loop-item.invariant.begins o start in
-    let none = under_none _ o.world o.past o.numbers _ o.base _ _ o.start _ _ _ (drop i xs) run c.loop-item.self.group.now c.loop-item.invariant.empty in
+    let none = under_none _ o.world o.past o.numbers _ o.base _ o.start _ _ _ (drop i xs) run c.loop-item.self.group.now c.loop-item.invariant.empty in
     let under = c.in_ok-join_first.ensures.joins o.world o.past o.numbers (after_groups o.world o.past o.start run.groups) [] none tt in
-    let first = gathers_item _ o.world o.past o.numbers _ o.base _ _ o.start _ _ _ (drop i xs) run _ _ item (drop (i + 1) xs) (next_first xs i item c.loop-item-test.true c.item-item.is) under in
+    let first = gathers_item _ o.world o.past o.numbers _ o.base _ o.start _ _ _ (drop i xs) run _ _ item (drop (i + 1) xs) (next_first xs i item c.loop-item-test.true c.item-item.is) under in
     let fault = err_from_is_err_and c.from_residual-in_err-deliver.result c.from_residual-in_err-deliver.ensures.1 in
     rw (fault.1 ∙ ap (λ (x : Fault). Err x) fault.2)
     (c.in_err-deliver.ensures.goes o (drop (i + 1) xs) (record { many = 1; within = omega arith; run = first.0; over = first.1 }))
@@ -49,8 +49,7 @@ loop-item-preserved g c = record {
         tape = new.tape ∙ old.tape;
         archive = new.archive ∙ old.archive;
         disk = new.disk ∙ old.disk;
-        until = new.until ∙ old.until;
-        limit = new.limit ∙ old.limit;
+        limits = new.limits ∙ old.limits;
       };
   empty = c.in_ok-deliver.ensures.empty;
   begins = λ o start.
@@ -58,9 +57,9 @@ loop-item-preserved g c = record {
       let i = c.loop-item.item-index in
       let item = c.item-item.result in
       let run = c.loop-item.invariant.begins o start in
-      let none = under_none _ o.world o.past o.numbers _ o.base _ _ o.start _ _ _ (drop i xs) run c.loop-item.self.group.now c.loop-item.invariant.empty in
+      let none = under_none _ o.world o.past o.numbers _ o.base _ o.start _ _ _ (drop i xs) run c.loop-item.self.group.now c.loop-item.invariant.empty in
       let under = c.in_ok-join_first.ensures.joins o.world o.past o.numbers (after_groups o.world o.past o.start run.groups) [] none tt in
-      let first = gathers_item _ o.world o.past o.numbers _ o.base _ _ o.start _ _ _ (drop i xs) run _ _ item (drop (i + 1) xs) (next_first xs i item c.loop-item-test.true c.item-item.is) under in
+      let first = gathers_item _ o.world o.past o.numbers _ o.base _ o.start _ _ _ (drop i xs) run _ _ item (drop (i + 1) xs) (next_first xs i item c.loop-item-test.true c.item-item.is) under in
       c.in_ok-deliver.ensures.goes o (drop (i + 1) xs) (record { many = 1; within = omega arith; run = first.0; over = first.1 });
 }
 

@@ -14,7 +14,7 @@ returns-then-not-goes_on-clause-gathers g c = λ o first.
       many = c.loop.counter;
       within = omega (arith, c.loop.auto.counter-end);
       run = run;
-      over = over_enough _ o.world o.past o.numbers _ o.base pace.until pace.limit o.start _ _ _ pace.taken [] c.loop.counter run (c.goes_on.ensures.stops c.if-not-goes_on.true);
+      over = over_enough _ o.world o.past o.numbers _ o.base pace.limits o.start _ _ _ pace.taken [] c.loop.counter run (c.goes_on.ensures.stops c.if-not-goes_on.true);
     }
 
 pub returns-clause-gathers : goal.returns-clause-gathers
@@ -25,5 +25,5 @@ returns-clause-gathers g c = λ o first.
       many = c.loop.counter;
       within = omega (arith, c.loop.auto.counter-end);
       run = run;
-      over = over_many _ o.world o.past o.numbers _ o.base pace.until pace.limit o.start _ _ _ pace.taken [] c.loop.counter run (omega (arith, c.loop.auto.counter-end, c.loop-test.false));
+      over = over_many _ o.world o.past o.numbers _ o.base pace.limits o.start _ _ _ pace.taken [] c.loop.counter run (omega (arith, c.loop.auto.counter-end, c.loop-test.false));
     }

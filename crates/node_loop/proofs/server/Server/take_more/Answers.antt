@@ -29,7 +29,7 @@ returns-in_err-next_now-clause-gathers g c = λ o many run goes lt is.
     let s₀ = after_groups o.world o.past o.start run.older in
     let fault = err_from_is_err_and c.from_residual.result c.from_residual.ensures.1 in
     rw fault.1
-    (λ end is_end. more_fails _ o.world o.past o.numbers _ o.base pace.until pace.limit o.start _ _ _ pace.taken [] many run _ fault.0 end (omega (arith, lt))
+    (λ end is_end. more_fails _ o.world o.past o.numbers _ o.base pace.limits o.start _ _ _ pace.taken [] many run _ fault.0 end (omega (arith, lt))
     (next_failed (Option LinkItem) _ o.base _ s₀.events (sooner o.world o.past o.start (run.newest ∷ run.older)) _ _ _ fault.0 fault.2 run.agrees c.in_err-next_now.ensures.err
     c.in_err-next_now.ensures.cause.later c.in_err-next_now.ensures.count) run.kept is_end)
 
@@ -39,10 +39,10 @@ returns-in-None-clause-gathers g c = λ o many run goes lt is.
     let pace = c.args.self.now.pace in
     let s₀ = after_groups o.world o.past o.start run.older in
     let s = after_from o.world o.past s₀ run.newest in
-    let same = wants_now o.world o.past pace.until pace.limit s pace.taken run.rest run.items ∙ next_ask _ is in
-    let it = gathers_still _ o.world o.past o.numbers _ o.base pace.until pace.limit o.start _ _ _ pace.taken [] many run _
+    let same = wants_now o.world o.past pace.limits s pace.taken run.rest run.items ∙ next_ask _ is in
+    let it = gathers_still _ o.world o.past o.numbers _ o.base pace.limits o.start _ _ _ pace.taken [] many run _
     (none_told _ o.base _ s₀.events (sooner o.world o.past o.start (run.newest ∷ run.older)) _ _ run.agrees (given_so _ _ _ _ _ c.in-None.is c.in_ok-next_now.ensures.ok) c.in_ok-next_now.ensures.count) run.kept
-    (over_where _ o.world o.past o.numbers _ o.base pace.until pace.limit o.start _ _ _ pace.taken [] many run Asks same (λ i turn. absurd (cc))) in
+    (over_where _ o.world o.past o.numbers _ o.base pace.limits o.start _ _ _ pace.taken [] many run Asks same (λ i turn. absurd (cc))) in
     record { many = many; within = omega (arith, lt); run = it.0; over = it.1 }
 
 -- it joins
@@ -53,22 +53,22 @@ returns-in_ok-join_item-in-Some-clause-gathers g c = λ o many run goes lt is.
     let item = c.in-Some.item in
     let s₀ = after_groups o.world o.past o.start run.older in
     let s = after_from o.world o.past s₀ run.newest in
-    let want = item_wanted o.world o.past pace.until pace.limit s pace.taken run.rest run.items item is
+    let want = item_wanted o.world o.past pace.limits s pace.taken run.rest run.items item is
     (given_item _ _ c.in-Some.is c.in_ok-next_now.ensures.open c.in_ok-next_now.ensures.size) in
     let fits = c.in_ok-join_item-in-Some.ensures.fits o.world o.past o.numbers s₀ run.newest run.under in
     let under = c.in_ok-join_item-in-Some.ensures.joins o.world o.past o.numbers s₀ run.newest run.under (may_join (Took item) c.args.self.now.group.now tt goes run.newest) in
-    gathers_more _ o.world o.past o.numbers _ o.base pace.until pace.limit o.start _ _ _ pace.taken [] many run _ _ _ (pace.taken + 1) [] (Took item) want fits run.rest (ap (λ (n : ℕ). n + 1) run.items)
-    (calls_with_item _ o.world o.past o.numbers _ o.base pace.until pace.limit o.start _ _ _ pace.taken [] many run _ _ item (given_so _ _ _ _ _ c.in-Some.is c.in_ok-next_now.ensures.ok) c.in_ok-next_now.ensures.count) run.kept under
+    gathers_more _ o.world o.past o.numbers _ o.base pace.limits o.start _ _ _ pace.taken [] many run _ _ _ (pace.taken + 1) [] (Took item) want fits run.rest (ap (λ (n : ℕ). n + 1) run.items)
+    (calls_with_item _ o.world o.past o.numbers _ o.base pace.limits o.start _ _ _ pace.taken [] many run _ _ item (given_so _ _ _ _ _ c.in-Some.is c.in_ok-next_now.ensures.ok) c.in_ok-next_now.ensures.count) run.kept under
 
 pub returns-in_err-join_item-in-Some-clause-gathers : goal.returns-in_err-join_item-in-Some-clause-gathers
 returns-in_err-join_item-in-Some-clause-gathers g c = λ o many run goes lt is.
     let pace = c.args.self.now.pace in
     let item = c.in-Some.item in
     let s = after_from o.world o.past (after_groups o.world o.past o.start run.older) run.newest in
-    let want = item_wanted o.world o.past pace.until pace.limit s pace.taken run.rest run.items item is
+    let want = item_wanted o.world o.past pace.limits s pace.taken run.rest run.items item is
     (given_item _ _ c.in-Some.is c.in_ok-next_now.ensures.open c.in_ok-next_now.ensures.size) in
     let fits = c.in_err-join_item-in-Some.ensures.fits o.world o.past o.numbers (after_groups o.world o.past o.start run.older) run.newest run.under in
     let fault = err_from_is_err_and c.from_residual-in_err-join_item-in-Some.result c.from_residual-in_err-join_item-in-Some.ensures.1 in
     rw (fault.1 ∙ ap (λ (x : Fault). Err x) fault.2)
-    (λ end is_end. rw is_end (more_short _ o.world o.past o.numbers _ o.base pace.until pace.limit o.start _ _ _ pace.taken [] many run _ _ (Took item) lt tt goes want fits
-    (calls_with_item _ o.world o.past o.numbers _ o.base pace.until pace.limit o.start _ _ _ pace.taken [] many run _ _ item (given_so _ _ _ _ _ c.in-Some.is c.in_ok-next_now.ensures.ok) c.in_ok-next_now.ensures.count) run.kept))
+    (λ end is_end. rw is_end (more_short _ o.world o.past o.numbers _ o.base pace.limits o.start _ _ _ pace.taken [] many run _ _ (Took item) lt tt goes want fits
+    (calls_with_item _ o.world o.past o.numbers _ o.base pace.limits o.start _ _ _ pace.taken [] many run _ _ item (given_so _ _ _ _ _ c.in-Some.is c.in_ok-next_now.ensures.ok) c.in_ok-next_now.ensures.count) run.kept))
